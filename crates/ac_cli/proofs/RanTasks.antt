@@ -1,5 +1,5 @@
 -- What was done for a line, by what it calls for; and how a run or a session ends for which memory gave out at first.
-use Rattle.std.proofs.Common.{◌≡◌, ℕ, ◌≤◌, List, Option, Some, None, arith, refl, subst}
+use Rattle.std.proofs.Common.{◌≡◌, ℕ, ◌≤◌, List, [], Option, Some, None, arith, refl, subst}
 use Rattle.ac_run.specs.Answer.{Outcome}
 use Rattle.ac_run.specs.Feeds.{Bytes}
 use Rattle.ac_run.specs.Lines.{memory_line}
@@ -9,13 +9,13 @@ use Rattle.ac_tables.specs.declared.fault.Table.{Table}
 use Rattle.ac_tables.specs.declared.read.FiveTables.{FiveTables}
 use Rattle.ac_session.proofs.Stood.{first_none}
 use Rattle.ac_words.specs.Words.{Line, task_in}
-use Rattle.ac_cli.specs.Program.{HeldSession, IsLine, Ran, RanCall, RanJob, RanSession, RanTask, Streams, detail_in}
+use Rattle.ac_cli.specs.Program.{HeldSession, IsLine, Ran, RanCall, RanJob, RanSession, RanTask, Stops, Streams, detail_in}
 
 -- where memory gave out at first, nothing was taken
 module _ {R : Type 0} (remaining : R → Option (List ℕ)) (from : FiveTables R) (s : Streams) (given : ℕ)
     (seven : given ≡ 7) (told : IsLine s memory_line) (kept : s.out_new ≡ s.out_old) (few : s.err_before ≤ s.err_after) where
-  pub none_ran : (said : Bytes → Outcome) (Unread : Table → Type 0) → Ran remaining said Unread from s given
-  none_ran said Unread = record {
+  pub none_ran : (said : Bytes → Outcome) (may : Bytes → Type 0) (Unread : Table → Type 0) → Ran remaining said may Unread from s given
+  none_ran said may Unread = record {
     written = λ small. absurd (omega (arith, seven, small));
     tables = λ three. absurd (cc);
     query = λ four. absurd (cc);
@@ -23,19 +23,24 @@ module _ {R : Type 0} (remaining : R → Option (List ℕ)) (from : FiveTables R
     untouched = λ low high. absurd (omega (arith, seven, high));
     output = λ six. absurd (cc);
     memory = λ _. told;
+    tries = λ eight. absurd (cc);
+    stopped = λ eight. absurd (cc);
     part = λ high b tell. rw kept (first_none s.out_old (said b).output);
     status = rw seven (6, omega arith, refl);
     failures = few;
   }
 
-  pub none_held : {Q : Type 0} (asked : Q → Option (List ℕ)) (fails : Q → ℕ) (questions : Q) (said : Bytes → List ℕ → Outcome) (Unread : Table → Type 0)
-      → RanSession remaining said Unread asked fails from questions questions s given
-  none_held asked fails questions said Unread = record {
-    written = λ zero. absurd (cc);
+  pub none_held : {Q : Type 0} (asked : Q → Option (List ℕ)) (fails : Q → ℕ) (questions : Q) (tries : Option ℕ) (said : Bytes → List ℕ → Outcome) (may : Bytes → Stops → List ℕ → Type 0)
+      (said_with : Bytes → Stops → List ℕ → Outcome) (Unread : Table → Type 0) → ((b : Bytes) (q : List ℕ) → may b [] q)
+      → RanSession remaining tries said may said_with Unread asked fails from questions questions s given
+  none_held asked fails questions tries said may said_with Unread none = record {
+    written_within = λ zero. absurd (cc);
+    written = λ whole zero. absurd (cc);
     unread = λ three. absurd (cc);
     output = λ six. absurd (cc);
     memory = λ _. told;
-    part = λ b tell q known few. rw kept (first_none s.out_old (said b q).output);
+    part_within = λ b tell q known few. ([], none b q, rw kept (first_none s.out_old (said_with b [] q).output));
+    part = λ whole b tell q known few. rw kept (first_none s.out_old (said b q).output);
     status = rw seven (3, omega arith, refl);
     failures = few;
   }
@@ -48,12 +53,13 @@ module _ {R Q : Type 0} (remaining : R → Option (List ℕ)) (failures : R → 
   pub ran_call : (task : Task) → Some task ≡ task_in line (detail_in line) → RanJob remaining failures task from to s given → Called (task_in line (detail_in line))
   ran_call task is ran = subst Called is ran
 
-  pub held_call : (detail : Option Paths) (version : Version) → None ≡ task_in line (detail_in line) → detail ≡ detail_in line → version ≡ line.version
-      → HeldSession remaining failures asked fails detail version from to questions s given → Called (task_in line (detail_in line))
-  held_call detail version is same read held =
+  pub held_call : (detail : Option Paths) (version : Version) (tries : Option ℕ) → None ≡ task_in line (detail_in line) → detail ≡ detail_in line → version ≡ line.version → tries ≡ line.tries
+      → HeldSession remaining failures asked fails detail version tries from to questions s given → Called (task_in line (detail_in line))
+  held_call detail version tries is same read bound held =
       subst Called is
-      (subst (λ (d : Option Paths). HeldSession remaining failures asked fails d line.version from to questions s given) same
-      (subst (λ (v : Version). HeldSession remaining failures asked fails detail v from to questions s given) read held))
+      (subst (λ (d : Option Paths). HeldSession remaining failures asked fails d line.version line.tries from to questions s given) same
+      (subst (λ (v : Version). HeldSession remaining failures asked fails detail v line.tries from to questions s given) read
+      (subst (λ (n : Option ℕ). HeldSession remaining failures asked fails detail version n from to questions s given) bound held)))
 
 -- what is said of a run is said of its task by another name
 pub of_task : {R : Type 0} (remaining : R → Option (List ℕ)) (failures : R → ℕ) (from to : FiveTables R) (s : Streams) (given : ℕ) (task other : Task) → task ≡ other

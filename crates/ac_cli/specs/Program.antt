@@ -12,12 +12,17 @@ use Rattle.ac_query.specs.declared.version.Version.TheVariants.{V136}
 use Rattle.ac_remedies.specs.Tables.{unread_remedy}
 use Rattle.ac_run.specs.Answer.{Outcome, answer}
 use Rattle.ac_run.specs.Feeds.{Bytes, FeedRose, TellBytes}
-use Rattle.ac_run.specs.Lines.{memory_line, output_line, unreadable_line}
+use Rattle.ac_run.specs.Lines.{memory_line, output_line, tries_line, unreadable_line}
 use Rattle.ac_run.specs.Run.{FailsOr, IsAnswered, IsRefused, IsUnread}
 use Rattle.ac_base.specs.Writing.{TakesLine}
+use Rattle.ac_run.specs.Stops.{TaskMayStop}
 use Rattle.ac_run.specs.Tasks.{Command, Paths, Task, check, tokens}
 use Rattle.ac_session.specs.Lines.{most_passed}
-use Rattle.ac_session.specs.Sessions.{AreUnread, session_answer}
+use Rattle.ac_run.specs.Wanted.Given.{tables_in}
+use Rattle.ac_session.specs.Sessions.{AreUnread, session_answer, session_answer_with}
+use Rattle.ac_session.specs.Tries.{AreStops}
+use Rattle.ac_session.specs.Turns.{lines_in}
+use Rattle.ac_tables.specs.Tables.{world_stated}
 use Rattle.ac_tables.specs.declared.read.FiveTables.{FiveTables}
 use Rattle.ac_cli.specs.Files.{AreOpened}
 use Rattle.ac_words.specs.Words.{Line, Says, faults, named, task_in}
@@ -62,8 +67,8 @@ pub record IsTold (s : Streams) (text : List ℕ) (wanted given : ℕ) : Type 0 
 
 -- ---- a run
 
--- What each status of a run says, over feeds that were these before: what is said over bytes, and that the feed of a table failed.
-pub record Ran {R : Type 0} (remaining : R → Option (List ℕ)) (said : Bytes → Outcome) (Unread : Table → Type 0) (from : FiveTables R) (s : Streams) (given : ℕ) : Type 0 where
+-- What each status of a run says, over feeds that were these before: what is said over bytes, that a search may stop, and that the feed of a table failed.
+pub record Ran {R : Type 0} (remaining : R → Option (List ℕ)) (said : Bytes → Outcome) (may : Bytes → Type 0) (Unread : Table → Type 0) (from : FiveTables R) (s : Streams) (given : ℕ) : Type 0 where
   pub written : given ≤ 1 → (b : Bytes) → TellBytes remaining from b → IsAnswered (said b) s.out_old s.out_new s.err_old s.err_new given
   pub tables : given ≡ 3 → (failed : Option Table) × FailsOr Unread
       ((b : Bytes) → TellBytes remaining from b → IsRefused (said b) s.err_old s.err_new s.err_before s.err_after given) failed
@@ -72,8 +77,10 @@ pub record Ran {R : Type 0} (remaining : R → Option (List ℕ)) (said : Bytes 
   pub untouched : 3 ≤ given → given ≤ 5 → Keeps s.out_old s.out_new
   pub output : given ≡ 6 → Rises s.out_before s.out_after × IsLine s output_line
   pub memory : given ≡ 7 → IsLine s memory_line
+  pub tries : given ≡ 8 → IsLine s tries_line
+  pub stopped : given ≡ 8 → (b : Bytes) → TellBytes remaining from b → may b
   pub part : 6 ≤ given → (b : Bytes) → TellBytes remaining from b → IsFirstPart (append_known s.out_old (said b).output) s.out_new
-  pub status : Contains (0 ∷ 1 ∷ 3 ∷ 4 ∷ 5 ∷ 6 ∷ 7 ∷ []) given
+  pub status : Contains (0 ∷ 1 ∷ 3 ∷ 4 ∷ 5 ∷ 6 ∷ 7 ∷ 8 ∷ []) given
   pub failures : s.err_before ≤ s.err_after
 
 -- the feed of a table failed, which the line says, with what stands behind it where more is told
@@ -82,7 +89,7 @@ Unread failures detail from to s t = IsUnread (FeedRose failures from to t) deta
 
 -- a task was run over feeds that were these before and after
 abbrev pub RanTask : {R : Type 0} → (R → Option (List ℕ)) → (R → ℕ) → Task → FiveTables R → FiveTables R → Streams → ℕ → Type 0
-RanTask remaining failures task from to s given = Ran remaining (answer task) (Unread failures task.detail from to s) from s given
+RanTask remaining failures task from to s given = Ran remaining (answer task) (TaskMayStop task) (Unread failures task.detail from to s) from s given
 
 unfoldable pub usages_note : List ℕ
 usages_note = codes "usages: no table is given, so nothing counts as used\n"
@@ -107,26 +114,42 @@ pub record RanJob {R : Type 0} (remaining : R → Option (List ℕ)) (failures :
 
 -- ---- a session
 
--- What each status of a session says, over feeds of tables and of questions that were these before and after.
-pub record RanSession {R Q : Type 0} (remaining : R → Option (List ℕ)) (said : Bytes → List ℕ → Outcome) (Unread : Table → Type 0) (asked : Q → Option (List ℕ)) (fails : Q → ℕ)
+-- where the searches of lines stopped: of each, what of its output was written then, or none where it was answered whole
+abbrev pub Stops : Type 0
+Stops = List (Option (List ℕ))
+
+-- What each status of a session says, over feeds of tables and of questions that were these before and after: what is said over bytes and questions, where searches
+-- stopped and where none did.
+pub record RanSession {R Q : Type 0} (remaining : R → Option (List ℕ)) (tries : Option ℕ) (said : Bytes → List ℕ → Outcome) (may : Bytes → Stops → List ℕ → Type 0)
+    (said_with : Bytes → Stops → List ℕ → Outcome) (Unread : Table → Type 0) (asked : Q → Option (List ℕ)) (fails : Q → ℕ)
     (from : FiveTables R) (first last : Q) (s : Streams) (given : ℕ) : Type 0 where
-  pub written : given ≡ 0 → (b : Bytes) → TellBytes remaining from b → (q : List ℕ) → asked first ≡ Some q → length q < most_passed
+  pub written_within : given ≡ 0 → (b : Bytes) → TellBytes remaining from b → (q : List ℕ) → asked first ≡ Some q → length q < most_passed
+      → (stops : Stops) × may b stops q × IsAnswered (said_with b stops q) s.out_old s.out_new s.err_old s.err_new given
+  pub written : tries ≡ None → given ≡ 0 → (b : Bytes) → TellBytes remaining from b → (q : List ℕ) → asked first ≡ Some q → length q < most_passed
       → IsAnswered (said b q) s.out_old s.out_new s.err_old s.err_new given
   pub unread : given ≡ 3 → AreUnread (Rises (fails first) (fails last)) s.err_old s.err_new s.err_before s.err_after
       ⊎ ((failed : Option Table) × FailsOr Unread
       ((b : Bytes) → TellBytes remaining from b → (q : List ℕ) → IsRefused (said b q) s.err_old s.err_new s.err_before s.err_after given) failed)
   pub output : given ≡ 6 → Rises s.out_before s.out_after × IsLine s output_line
   pub memory : given ≡ 7 → IsLine s memory_line
-  pub part : (b : Bytes) → TellBytes remaining from b → (q : List ℕ) → asked first ≡ Some q → length q < most_passed
+  pub part_within : (b : Bytes) → TellBytes remaining from b → (q : List ℕ) → asked first ≡ Some q → length q < most_passed
+      → (stops : Stops) × may b stops q × IsFirstPart (append_known s.out_old (said_with b stops q).output) s.out_new
+  pub part : tries ≡ None → (b : Bytes) → TellBytes remaining from b → (q : List ℕ) → asked first ≡ Some q → length q < most_passed
       → IsFirstPart (append_known s.out_old (said b q).output) s.out_new
   pub status : Contains (0 ∷ 3 ∷ 6 ∷ 7 ∷ []) given
   pub failures : s.err_before ≤ s.err_after
 
+-- the searches of a session may stop so, over the bytes of five tables
+abbrev pub SessionMayStop : Option ℕ → Version → Bytes → Stops → List ℕ → Type 0
+SessionMayStop tries version b stops q = AreStops tries version (world_stated (tables_in b)) stops (lines_in q)
+
 -- a session was held over feeds of tables that were these before and after, with these questions
 abbrev pub HeldSession : {R Q : Type 0} → (R → Option (List ℕ)) → (R → ℕ) → (Q → Option (List ℕ)) → (Q → ℕ)
-    → Option Paths → Version → FiveTables R → FiveTables R → Q → Streams → ℕ → Type 0
-HeldSession {R} {Q} remaining failures asked fails detail version from to questions s given =
-    (last : Q) × RanSession remaining (session_answer detail version) (Unread failures detail from to s) asked fails from questions last s given
+    → Option Paths → Version → Option ℕ → FiveTables R → FiveTables R → Q → Streams → ℕ → Type 0
+HeldSession {R} {Q} remaining failures asked fails detail version tries from to questions s given =
+    (last : Q)
+    × RanSession remaining tries (session_answer detail version) (SessionMayStop tries version) (session_answer_with detail version) (Unread failures detail from to s)
+    asked fails from questions last s given
 
 -- ---- words that were accepted
 
@@ -139,7 +162,7 @@ abbrev pub RanCall : {R Q : Type 0} → (R → Option (List ℕ)) → (R → ℕ
     → Option Task → Line → FiveTables R → FiveTables R → Q → Streams → ℕ → Type 0
 RanCall remaining failures asked fails (Some task) line from to questions s given = RanJob remaining failures task from to s given
 RanCall remaining failures asked fails None line from to questions s given =
-    HeldSession remaining failures asked fails (detail_in line) line.version from to questions s given
+    HeldSession remaining failures asked fails (detail_in line) line.version line.tries from to questions s given
 
 -- a refused path is told; where more is told, with the reason that was given for it, or else want of memory for that
 abbrev pub IsToldUnopened : Option Paths → Table → Text → Text → (List ℕ → Type 0) → ℕ → Type 0
@@ -208,7 +231,7 @@ EndsForWords Ends words s given =
 
 -- the task and the tables of a call without words
 abbrev pub sample_task : Task
-sample_task = record { command = tokens None; query = codes "resources=VCPU:2"; version = V136; detail = None }
+sample_task = record { command = tokens None; query = codes "resources=VCPU:2"; version = V136; tries = None; detail = None }
 
 unfoldable pub sample_bytes : Bytes
 sample_bytes = record {

@@ -31,7 +31,7 @@ fn tell_text<E: Sink>(err: &mut E, text: &[u8])
 }
 
 // Runs a job, and gathers its output: it is handed on in pieces of 65536 bytes, and at the end. Gives the status, and the output sink. Of an answer that
-// ends with 6 or 7 the last piece isn't handed on.
+// ends with 6 or 7 the last piece isn't handed on; where a search stopped, it is, as far as the sink takes it.
 fn ran<F: Feed, W: Sink + Drop, E: Sink>(
     alloc: Global,
     job: &Job<'_>,
@@ -47,6 +47,10 @@ fn ran<F: Feed, W: Sink + Drop, E: Sink>(
     };
     let mut gathering = Gathering::new(out, room);
     let status = run(alloc, job, inputs, &mut gathering, err);
+    if status == 8 {
+        let (_, out) = gathering.finish();
+        return (status, out);
+    }
     if status > 1 {
         return (status, gathering.into_inner());
     }
@@ -89,6 +93,7 @@ fn ran_job<F: Feed, W: Sink + Drop, E: Sink>(
 fn held<F: Feed, Q: Feed + Drop, W: Sink + Drop, E: Sink>(
     alloc: Global,
     version: Version,
+    tries: Option<u64>,
     detail: Option<&Paths<'_>>,
     inputs: &mut Inputs<F>,
     questions: Q,
@@ -96,11 +101,11 @@ fn held<F: Feed, Q: Feed + Drop, W: Sink + Drop, E: Sink>(
     err: &mut E,
 ) -> (u8, W)
     ensures { HeldSession F.remaining F.failures Q.remaining Q.failures (detail_shown detail.entry)
-        version inputs.old inputs.new questions
+        version tries inputs.old inputs.new questions
         (seen W.taken W.failures E.taken E.failures out result.1 err.old err.new) result.0 }
 {
     match Lines::new(alloc, questions) {
-        Ok(mut lines) => run_session(alloc, version, detail, inputs, &mut lines, out, err),
+        Ok(mut lines) => run_session(alloc, version, tries, detail, inputs, &mut lines, out, err),
         Err(_) => (tell(err, &Refused::of(alloc, Refusal::NoMemory)), out),
     }
 }
@@ -168,6 +173,7 @@ fn answer_line<H: Host + AllocGlobal, Q: Feed + Drop, W: Sink + Drop, E: Sink>(
         None => held(
             alloc,
             words.version(),
+            words.tries(),
             detail,
             &mut inputs,
             questions,

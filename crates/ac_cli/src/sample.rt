@@ -26,6 +26,7 @@ pub fn job() -> Job<'static>
         command: Command::Tokens { after: None },
         query: "resources=VCPU:2",
         version: Version::V136,
+        tries: None,
         detail: None,
     }
 }

@@ -15,7 +15,7 @@ use Rattle.ac_report.specs.Outcomes.{WritesEach}
 use Rattle.ac_report.specs.Texts.{line}
 use Rattle.ac_report.specs.declared.fault.PageFault.{PageFault}
 use Rattle.ac_report.specs.declared.fault.PageFault.TheVariants as fault
-use Rattle.ac_report.proofs.Pages.Writing.{refused, stopped, wrote_none, wrote_on}
+use Rattle.ac_report.proofs.Pages.Writing.{halted, refused, stopped, wrote_none, wrote_on}
 use Rattle.ac_rules.specs.Claims.{claimed}
 use Rattle.ac_rules.specs.Judge.{is_candidate, is_open}
 use Rattle.ac_rules.specs.Lists.{IsListBelow}
@@ -123,13 +123,17 @@ module _ {W : Type 0} {taken : W → Option (List ℕ)} {fails : W → ℕ} (all
   pub ends_refused : (s : Stand) (a : W) → Ends taken fails all asked s a a (Err fault.NoMemory)
   ends_refused s a = record { writes = refused _ (line all) (placements_at asked s) a (Err fault.NoMemory) refl; count = tt; world = tt; fits = tt }
 
+  -- nothing more is written where the search stops
+  pub ends_halted : (s : Stand) (a : W) → Ends taken fails all asked s a a (Err fault.TooManyTries)
+  ends_halted s a = record { writes = halted _ (line all) (placements_at asked s) a (Err fault.TooManyTries) refl tt; count = tt; world = tt; fits = tt }
+
   module _ (s next : Stand) (t : List ℕ) (first : placements_at asked s ≡ t ∷ placements_at asked next) {a b : W} where
-    pub ends_stopped : {Z : Type 0} {e : PageFault} → WritesEach {X = Z} taken fails a b (Err e) (line all) (t ∷ []) → Ends taken fails all asked s a b (Err e)
-    ends_stopped wrote = record { writes = rw first (stopped (line all) (t ∷ []) (placements_at asked next) wrote refl); count = tt; world = tt; fits = tt }
+    pub ends_stopped : {Z : Type 0} {e : PageFault} → WritesEach {X = Z} taken fails ⊥ a b (Err e) (line all) (t ∷ []) → Ends taken fails all asked s a b (Err e)
+    ends_stopped wrote = record { writes = rw first (stopped (line all) (t ∷ []) (placements_at asked next) wrote (λ _. tt) refl); count = tt; world = tt; fits = tt }
 
     -- a placement is made, and then the others are
     pub ends_on : {Z : Type 0} {z : Z} → next.count ≡ min (s.count + 1) 4294967295 → next.world ≡ claimed s.world (assigned asked t)
-        → WritesEach taken fails a b (Ok z) (line all) (t ∷ []) → (r : Result Filled PageFault) (c : W) → Ends taken fails all asked next b c r → Ends taken fails all asked s a c r
+        → WritesEach taken fails ⊥ a b (Ok z) (line all) (t ∷ []) → (r : Result Filled PageFault) (c : W) → Ends taken fails all asked next b c r → Ends taken fails all asked s a c r
     ends_on count world wrote r c then = record {
       writes = rw first (wrote_on (line all) (t ∷ []) wrote then.writes);
       count = rw first (IfOk-weaker r _ _ (λ x e. omega (arith, e, count)) then.count);

@@ -56,7 +56,7 @@ IsFull all f = sums (world_at all f) (assigned (asked_in (takings_of f)) f.full.
 -- The placements that are to come are written, counted and taken.
 pub record Ends {W : Type 0} (taken : W → Option (List ℕ)) (fails : W → ℕ) (all : List Provider) (asked : Asked) (s : Stand) (old new : W)
     (result : Result Filled PageFault) : Type 0 where
-  pub writes : WritesEach taken fails old new result (line all) (placements_at asked s)
+  pub writes : WritesEach taken fails ⊤ old new result (line all) (placements_at asked s)
   pub count : IfOk result (λ f. f.count ≡ min (length (placements_at asked s) + s.count) 4294967295)
   pub world : IfOk result (λ f. with_taken f.takings all ≡ after s.world asked (placements_at asked s))
   pub fits : IfOk result (λ f. IsTakenOf all f.takings)

@@ -1,6 +1,6 @@
 //! Placements that are counted, and not written: of each list as many at once as there is room for.
 
-ghost use Rattle.std.specs.Prelude.{◌≡◌, ◌≢◌, ◌<◌, ◌≤◌, ◌∷◌, ℕ, List, IfOk, OnOk, Some, true, length, min};
+ghost use Rattle.std.specs.Prelude.{◌≡◌, ◌≢◌, ◌<◌, ◌≤◌, ◌∷◌, ℕ, List, IfOk, OnOk, Some, Err, true, length, min};
 ghost use Rattle.ac_cloud.specs.Cloud.CloudWorld.{providers_of};
 ghost use Rattle.ac_query.specs.Shown.Queries.{asked_of};
 ghost use Rattle.ac_report.specs.Pages.{IsAssignment};
@@ -8,17 +8,18 @@ ghost use Rattle.ac_rules.specs.Judge.{is_candidate};
 ghost use Rattle.ac_rules.specs.Pages.{candidates};
 ghost use Rattle.ac_rules.specs.Shown.Assignments.{assigned_of};
 ghost use Rattle.ac_rules.specs.Together.{sums};
+ghost use Rattle.ac_search.specs.declared.fault.SearchFault.TheVariants as fault;
 ghost use Rattle.ac_fill.specs.Ends.{AreAhead, CountsAll, CountsSome, IsFull, as_wanted, count_at, fewer, stand_of, takings_of, world_at};
 ghost use Rattle.ac_fill.specs.Filled.{after, asks_units, filled, units_left};
 ghost use Rattle.ac_fill.specs.Shown.{asked_in, with_taken, IsTakenOf};
 
 use crate::placements::{Filled, Filling};
-use crate::takings::Takings;
 use ac_base::NoMemory;
 use ac_cloud::Cloud;
 use ac_query::Query;
 use ac_report::lines::is_over;
 use ac_rules::{Assignment, Source};
+use ac_search::SearchFault;
 use std::alloc::Global;
 
 // As many of a number of placements as are wanted.
@@ -107,7 +108,7 @@ pub fn count_filled<'a, S: Source>(
     cloud: &Cloud,
     query: &'a Query,
     source: &mut S,
-) -> Result<Filled<'a>, NoMemory>
+) -> Result<Filled<'a>, SearchFault>
     requires whole { S.left source.old
         ≡ candidates (providers_of cloud.now) (asked_of query.now) }
     requires asks { asks_units (asked_of query.now) ≡ true }
@@ -118,15 +119,11 @@ pub fn count_filled<'a, S: Source>(
         ≡ after (providers_of cloud.now) (asked_of query.now)
         (filled (asked_of query.now).limit (providers_of cloud.now) (asked_of query.now))) }
     ensures fits { IfOk result (λ f. IsTakenOf (providers_of cloud.now) f.takings) }
+    ensures stopped { result ≡ Err fault.TooManyTries → S.may_stop source.old }
 {
-    let takings = Takings::new(alloc, cloud, query)?;
-    let mut filling = Filling {
-        filled: Filled { count: 0, takings },
-        wanted: query.limit(),
-        full: Vec::new(alloc),
-    };
+    let mut filling = Filling::begin(alloc, cloud, query)?;
     'lists: while !is_over(filling.wanted) {
-        match source.next() {
+        match source.next()? {
             None => return Ok(filling.filled),
             Some(list) => {
                 let assignment = Assignment { cloud, query, list };

@@ -1,11 +1,12 @@
 //! Placements as lines: the token of each.
 
-ghost use Rattle.std.specs.Prelude.{◌≡◌, ◌≢◌, ◌≤◌, ◌⊎◌, ◌∷◌, ℕ, List, IfOk, OnOk, Some, true, false, length, min};
+ghost use Rattle.std.specs.Prelude.{◌≡◌, ◌≢◌, ◌≤◌, ◌⊎◌, ◌∷◌, ℕ, List, IfOk, OnOk, Some, Err, true, false, length, min};
 ghost use Rattle.ac_cloud.specs.Cloud.CloudWorld.{providers_of};
 ghost use Rattle.ac_query.specs.Shown.Queries.{asked_of};
 ghost use Rattle.ac_report.specs.Outcomes.{WritesEach};
 ghost use Rattle.ac_report.specs.Pages.{IsAssignment};
 ghost use Rattle.ac_report.specs.Texts.{line};
+ghost use Rattle.ac_report.specs.declared.fault.PageFault.TheVariants as fault;
 ghost use Rattle.ac_rules.specs.Judge.{is_candidate};
 ghost use Rattle.ac_rules.specs.Pages.{candidates};
 ghost use Rattle.ac_rules.specs.Shown.Assignments.{assigned_of};
@@ -15,7 +16,7 @@ ghost use Rattle.ac_fill.specs.Filled.{after, asks_units, filled};
 ghost use Rattle.ac_fill.specs.Shown.{asked_in, with_taken, IsTakenOf};
 
 use crate::takings::Takings;
-use ac_base::Sink;
+use ac_base::{NoMemory, Sink};
 use ac_cloud::Cloud;
 use ac_query::Query;
 use ac_report::PageFault;
@@ -43,6 +44,25 @@ pub(crate) struct Filling<'a> {
 impl<'a> Filling<'a> {
     ghost use Rattle.ac_fill.specs.Ends.{count_at, stand_of, takings_of, world_at, IsFull};
     ghost use Rattle.ac_fill.specs.Shown.{SumsFit};
+
+    /// Where nothing is placed yet, and as many are wanted as the query's limit says.
+    pub(crate) fn begin(
+        alloc: Global,
+        cloud: &Cloud,
+        query: &'a Query,
+    ) -> Result<Filling<'a>, NoMemory>
+        ensures query { IfOk result (λ f. asked_in (takings_of f) ≡ asked_of query.now) }
+        ensures fits { IfOk result (λ f. IsTakenOf (providers_of cloud.now) (takings_of f)) }
+        ensures stand { IfOk result (λ f. stand_of (providers_of cloud.now) f
+            ≡ start_of (providers_of cloud.now) (asked_of query.now)) }
+    {
+        let takings = Takings::new(alloc, cloud, query)?;
+        Ok(Filling {
+            filled: Filled { count: 0, takings },
+            wanted: query.limit(),
+            full: Vec::new(alloc),
+        })
+    }
 
     /// Whether one more placement of a list is wanted, and there is room for it.
     pub(crate) fn wants(&self, assignment: &Assignment<'_>) -> bool
@@ -108,6 +128,7 @@ impl<'a> Filling<'a> {
             result }
         ensures full { OnOk result ((self.new.wanted ≡ Some 0 → ⊥)
             → IsFull (providers_of assignment.now.cloud.now) self.new) }
+        ensures untried { result ≢ Err fault.TooManyTries }
     {
         'room: while self.wants(assignment) {
             put_line(text, assignment.cloud, assignment.list)?;
@@ -134,16 +155,12 @@ fn write_placements<'a, S: Source, W: Sink>(
     requires asks { asks_units (asked_of query.now) ≡ true }
     ensures ends { Ends W.taken W.failures (providers_of cloud.now) (asked_of query.now)
         (start_of (providers_of cloud.now) (asked_of query.now)) out.old out.new result }
+    ensures stopped { result ≡ Err fault.TooManyTries → S.may_stop source.old }
 {
-    let takings = Takings::new(alloc, cloud, query)?;
-    let mut filling = Filling {
-        filled: Filled { count: 0, takings },
-        wanted: query.limit(),
-        full: Vec::new(alloc),
-    };
+    let mut filling = Filling::begin(alloc, cloud, query)?;
     let mut text = Vec::new(alloc);
     'lists: while !is_over(filling.wanted) {
-        match source.next() {
+        match source.next()? {
             None => return Ok(filling.filled),
             Some(list) => {
                 let assignment = Assignment { cloud, query, list };
@@ -168,7 +185,7 @@ pub fn write_filled<'a, S: Source, W: Sink>(
     requires whole { S.left source.old
         ≡ candidates (providers_of cloud.now) (asked_of query.now) }
     requires asks { asks_units (asked_of query.now) ≡ true }
-    ensures writes { WritesEach W.taken W.failures out.old out.new result
+    ensures writes { WritesEach W.taken W.failures (S.may_stop source.old) out.old out.new result
         (line (providers_of cloud.now))
         (filled (asked_of query.now).limit (providers_of cloud.now) (asked_of query.now)) }
     ensures count { IfOk result (λ f. f.count ≡ min (length

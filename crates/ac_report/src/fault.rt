@@ -1,5 +1,6 @@
 //! Why a page was not written whole.
 use ac_base::{NoMemory, WriteFailed};
+use ac_search::{SearchFault, TooManyTries};
 use std::alloc::AllocError;
 use thiserror::Error;
 
@@ -12,6 +13,9 @@ pub enum PageFault {
     /// A growth was refused.
     #[error("out of memory")]
     NoMemory,
+    /// The search made as many tries as it may.
+    #[error("too many tries")]
+    TooManyTries,
 }
 
 impl From<NoMemory> for PageFault {
@@ -44,5 +48,30 @@ impl From<WriteFailed> for PageFault {
 
     fn from(_error: WriteFailed) -> PageFault {
         PageFault::WriteFailed
+    }
+}
+
+impl From<TooManyTries> for PageFault {
+    ghost use Rattle.std.specs.Prelude.{◌≡◌};
+    ghost use Rattle.ac_report.specs.declared.fault.PageFault.TheVariants as fault;
+
+    ghost from_gives = { λ _ e. e ≡ fault.TooManyTries };
+
+    fn from(_error: TooManyTries) -> PageFault {
+        PageFault::TooManyTries
+    }
+}
+
+impl From<SearchFault> for PageFault {
+    ghost use Rattle.std.specs.Prelude.{◌≡◌};
+    ghost use Rattle.ac_report.specs.Outcomes.{fault_of};
+
+    ghost from_gives = { λ fault e. e ≡ fault_of fault };
+
+    fn from(fault: SearchFault) -> PageFault {
+        match fault {
+            SearchFault::NoMemory => PageFault::NoMemory,
+            SearchFault::TooManyTries => PageFault::TooManyTries,
+        }
     }
 }

@@ -33,7 +33,7 @@ pub fn one_less(wanted: Option<u32>) -> Option<u32>
 /// Pushes a piece.
 pub fn push_piece<W: Sink>(out: &mut W, text: &[u8]) -> Result<(), PageFault>
     ensures { (piece : List ℕ → List ℕ) (x : List ℕ) → piece x ≡ text.now
-        → WritesEach W.taken W.failures out.old out.new result piece (x ∷ []) }
+        → WritesEach W.taken W.failures ⊥ out.old out.new result piece (x ∷ []) }
 {
     push_all(out, text)?;
     Ok(())
@@ -87,7 +87,7 @@ pub fn write_tokens<S: Source, W: Sink>(
         (S.left source.old) }
     ensures reads { Reads (asked_of query.now).limit 0 result (S.left source.old)
         (S.left source.new) }
-    ensures writes { WritesEach W.taken W.failures out.old out.new result
+    ensures writes { WritesEach W.taken W.failures (S.may_stop source.old) out.old out.new result
         (line (providers_of cloud.now))
         (cut (asked_of query.now).limit (S.left source.old)) }
 {
@@ -95,7 +95,7 @@ pub fn write_tokens<S: Source, W: Sink>(
     let mut text = Vec::new(alloc);
     let mut count: u32 = 0;
     'lists: while !is_over(wanted) {
-        match source.next() {
+        match source.next()? {
             None => return Ok(count),
             Some(list) => put_line(&mut text, cloud, list)?,
         }

@@ -112,15 +112,15 @@ fn write_blocks<S: Source, W: Sink>(
         (S.left source.old) }
     ensures reads { Reads (asked_of query.now).limit 0 result (S.left source.old)
         (S.left source.new) }
-    ensures writes { WritesEach W.taken W.failures out.old out.new result (λ text. text)
-        (blocks (shown_providers traits (providers_of cloud.now)) (asked_of query.now) 1
+    ensures writes { WritesEach W.taken W.failures (S.may_stop source.old) out.old out.new result
+        (λ text. text) (blocks (shown_providers traits (providers_of cloud.now)) (asked_of query.now) 1
         (cut (asked_of query.now).limit (S.left source.old))) }
 {
     let mut wanted = query.limit();
     let mut count: u32 = 0;
     'lists: while !is_over(wanted) {
         let number = count.saturating_add(1);
-        let text = match source.next() {
+        let text = match source.next()? {
             None => return Ok(count),
             Some(list) => {
                 let listed = Listed {
@@ -156,7 +156,7 @@ pub fn write_list<S: Source, W: Sink>(
         (S.left source.old) }
     ensures reads { Reads (asked_of query.now).limit 0 result (S.left source.old)
         (S.left source.new) }
-    ensures writes { Writes W.taken W.failures out.old out.new result
+    ensures writes { Writes W.taken W.failures (S.may_stop source.old) out.old out.new result
         (list_text (shown_providers traits (providers_of cloud.now)) (asked_of query.now)
         (cut (asked_of query.now).limit (S.left source.old))) (λ text. text)
         (list_pieces (shown_providers traits (providers_of cloud.now)) (asked_of query.now)

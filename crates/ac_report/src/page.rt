@@ -24,7 +24,7 @@ use std::alloc::{AllocError, Global};
 // Pushes a text, after a comma where something stands before.
 #[tactic(auto, using(ac_base::proofs::Leaving::behind))]
 fn push_listed<W: Sink>(out: &mut W, later: bool, text: &[u8]) -> Result<(), PageFault>
-    ensures { WritesEach W.taken W.failures out.old out.new result (λ text. text)
+    ensures { WritesEach W.taken W.failures ⊥ out.old out.new result (λ text. text)
         ((comma_if later ++ text.now) ∷ []) }
 {
     if !later {
@@ -83,8 +83,8 @@ fn write_requests<S: Source, W: Sink>(
     requires marks { IsMarked (providers_of cloud.now) [] marks.old }
     ensures reads { Reads (asked_of query.now).limit 0 result (S.left source.old)
         (S.left source.new) }
-    ensures writes { WritesEach W.taken W.failures out.old out.new result (λ text. text)
-        (requests (providers_of cloud.now) (asked_of query.now) false
+    ensures writes { WritesEach W.taken W.failures (S.may_stop source.old) out.old out.new result
+        (λ text. text) (requests (providers_of cloud.now) (asked_of query.now) false
         (cut (asked_of query.now).limit (S.left source.old))) }
     ensures marks { OnOk result (IsMarked (providers_of cloud.now)
         (cut (asked_of query.now).limit (S.left source.old)) marks.new) }
@@ -93,7 +93,7 @@ fn write_requests<S: Source, W: Sink>(
     let mut count: u32 = 0;
     let mut later = false;
     'lists: while !is_over(wanted) {
-        let text = match source.next() {
+        let text = match source.next()? {
             None => return Ok(count),
             Some(list) => {
                 mark_roots(cloud, list, marks);
@@ -118,7 +118,7 @@ fn write_summary<W: Sink>(
     out: &mut W,
 ) -> Result<(), PageFault>
     requires { ix < length (providers_of cloud.now) }
-    ensures { WritesEach W.taken W.failures out.old out.new result (λ text. text)
+    ensures { WritesEach W.taken W.failures ⊥ out.old out.new result (λ text. text)
         ((comma_if later ++ summary_piece (shown_providers traits (providers_of cloud.now)) ix)
         ∷ []) }
 {
@@ -146,7 +146,7 @@ fn write_summaries<W: Sink>(
 ) -> Result<(), PageFault>
     requires { length marks.now ≡ length (providers_of cloud.now) }
     ensures { (lists : List (List ℕ)) → IsMarked (providers_of cloud.now) lists marks.now
-        → WritesEach W.taken W.failures out.old out.new result (λ text. text)
+        → WritesEach W.taken W.failures ⊥ out.old out.new result (λ text. text)
         (summaries (shown_providers traits (providers_of cloud.now)) false
         (summarized (providers_of cloud.now) lists)) }
 {
@@ -176,8 +176,8 @@ fn write_parts<S: Source, W: Sink>(
     requires marks { IsMarked (providers_of cloud.now) [] marks.old }
     ensures reads { Reads (asked_of query.now).limit 0 result (S.left source.old)
         (S.left source.new) }
-    ensures writes { WritesEach W.taken W.failures out.old out.new result (λ text. text)
-        (body_pieces traits (providers_of cloud.now) (asked_of query.now)
+    ensures writes { WritesEach W.taken W.failures (S.may_stop source.old) out.old out.new result
+        (λ text. text) (body_pieces traits (providers_of cloud.now) (asked_of query.now)
         (cut (asked_of query.now).limit (S.left source.old))) }
 {
     push_piece(out, b"{\"allocation_requests\":[")?;
@@ -204,7 +204,7 @@ pub fn write_shown_page<S: Source, W: Sink>(
         (S.left source.old) }
     ensures reads { Reads (asked_of query.now).limit 0 result (S.left source.old)
         (S.left source.new) }
-    ensures writes { Writes W.taken W.failures out.old out.new result
+    ensures writes { Writes W.taken W.failures (S.may_stop source.old) out.old out.new result
         (body (shown_providers traits (providers_of cloud.now)) (asked_of query.now)
         (cut (asked_of query.now).limit (S.left source.old))) (λ text. text)
         (pieces (shown_providers traits (providers_of cloud.now)) (asked_of query.now)
@@ -229,7 +229,7 @@ pub fn write_page<S: Source, W: Sink>(
         (S.left source.old) }
     ensures reads { Reads (asked_of query.now).limit 0 result (S.left source.old)
         (S.left source.new) }
-    ensures writes { Writes W.taken W.failures out.old out.new result
+    ensures writes { Writes W.taken W.failures (S.may_stop source.old) out.old out.new result
         (body (providers_of cloud.now) (asked_of query.now)
         (cut (asked_of query.now).limit (S.left source.old))) (λ text. text)
         (pieces (providers_of cloud.now) (asked_of query.now)

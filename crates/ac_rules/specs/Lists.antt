@@ -1,5 +1,7 @@
 -- Lists of numbers: their order, all of them, and the first of some.
-use Rattle.std.specs.Prelude.{◌≡◌, ◌<◌, ◌&&◌, ◌||◌, ◌==◌, nat_lt, ℕ, zero, suc, Bool, true, false, List, [], ◌∷◌, ◌++◌, map, length, Option, Some, None, ⊤}
+use Rattle.std.specs.Prelude.{◌≡◌, ◌<◌, ◌&&◌, ◌||◌, ◌==◌, nat_lt, ℕ, zero, suc, Bool, true, false, List, [], ◌∷◌, ◌++◌, map, length, Option, Some, None, Result, Ok, Err, ⊤}
+use Rattle.std.specs.Borrow.{Bor}
+use Rattle.std.specs.Option.{option_copied}
 use Rattle.std.specs.List.{flat_map, range_with_len, All, AllByRecursion}
 
 -- one list is before another, item by item; a front of a list is before it
@@ -17,6 +19,16 @@ head_of (x ∷ xs) = Some x
 abbrev pub tail_of : {X : Type 0} → List X → List X
 tail_of [] = []
 tail_of (x ∷ xs) = xs
+
+-- the list that a source lent, where it did
+abbrev pub lent : {E : Type 0} → Result (Option (Bor (List ℕ))) E → Option (List ℕ)
+lent (Ok list) = option_copied list
+lent (Err e) = None
+
+-- what a source has left behind its answer: where it stopped, all
+abbrev pub left_behind : {E X : Type 0} → Result X E → List (List ℕ) → List (List ℕ)
+left_behind (Ok list) xs = tail_of xs
+left_behind (Err e) xs = xs
 
 -- the lists of k numbers below n, in order
 abbrev pub all_lists : ℕ → ℕ → List (List ℕ)

@@ -22,5 +22,5 @@ pub use classes::{all_classes, number_of};
 pub use judge::verify;
 pub use located::InCloud;
 pub use plain::Plain;
-pub use source::Source;
+pub use source::{Source, TooManyTries};
 pub use verdict::{Rule, Verdict};

@@ -19,7 +19,7 @@ use crate::judge::is_candidate;
 use crate::plain::after::is_after;
 use crate::plain::lists::AllLists;
 use crate::slots::count_slots;
-use crate::source::Source;
+use crate::source::{Source, TooManyTries};
 use ac_base::{Id, NoMemory};
 use ac_cloud::Cloud;
 use ac_query::{Query, Token};
@@ -107,11 +107,11 @@ impl<'a> Source for Plain<'a> {
 
     ghost left = { left_of };
 
-    fn next(&mut self) -> Option<&[u32]> {
+    fn next(&mut self) -> Result<Option<&[u32]>, TooManyTries> {
         if self.step() {
-            Some(self.lists.list())
+            Ok(Some(self.lists.list()))
         } else {
-            None
+            Ok(None)
         }
     }
 }

@@ -7,4 +7,5 @@ pub mod Wanted
 pub mod Outputs
 pub mod Answer
 pub mod Run
+pub mod Stops
 pub mod Laws

@@ -47,6 +47,9 @@ memory_line = codes "out of memory\n"
 unfoldable pub output_line : List ℕ
 output_line = codes "output: WriteFailed\n"
 
+unfoldable pub tries_line : List ℕ
+tries_line = codes "search: TooManyTries\n"
+
 unfoldable pub token_line : TokenFault → List ℕ
 token_line token.BadToken = codes "token: BadToken\n"
 token_line token.WrongLength = codes "token: WrongLength\n"

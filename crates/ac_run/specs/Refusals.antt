@@ -3,7 +3,7 @@ use Rattle.std.specs.Prelude.{◌≡◌, ℕ, List, ◌++◌, Option, Some, None
 use Rattle.std.specs.Global.{Vec}
 use Rattle.ac_query.specs.Faults.{Fault}
 use Rattle.ac_query.specs.Shown.Faults.{fault_shown}
-use Rattle.ac_run.specs.Lines.{unreadable_line, too_large_line, record_line, query_line, token_line, host_line, memory_line, output_line}
+use Rattle.ac_run.specs.Lines.{unreadable_line, too_large_line, record_line, query_line, token_line, host_line, memory_line, output_line, tries_line}
 use Rattle.ac_run.specs.declared.refusal.AskRefusal.{AskRefusal}
 use Rattle.ac_run.specs.declared.refusal.AskRefusal.TheVariants as ask
 use Rattle.ac_run.specs.declared.refusal.Refusal.{Refusal}
@@ -49,12 +49,14 @@ abbrev pub line_of : Refusal → List ℕ
 line_of (why.Tables refusal) = line_of_tables refusal
 line_of (why.Asked refusal) = line_of_asked refusal
 line_of why.Output = output_line
+line_of why.TooManyTries = tries_line
 line_of why.NoMemory = memory_line
 
 abbrev pub status_of : Refusal → ℕ
 status_of (why.Tables refusal) = status_of_tables refusal
 status_of (why.Asked refusal) = status_of_asked refusal
 status_of why.Output = 6
+status_of why.TooManyTries = 8
 status_of why.NoMemory = 7
 
 -- the line of a refusal, with what stands behind it

@@ -14,7 +14,7 @@ use Rattle.ac_run.specs.Details.{behind, unread_text}
 use Rattle.ac_run.specs.Wanted.Given.{tables_in}
 use Rattle.ac_run.specs.Tasks.{Paths}
 use Rattle.ac_run.specs.Feeds.{Bytes, TellBytes, FeedRose, too_large}
-use Rattle.ac_run.specs.Lines.{memory_line, output_line, unreadable_line}
+use Rattle.ac_run.specs.Lines.{memory_line, output_line, tries_line, unreadable_line}
 use Rattle.ac_base.specs.Writing.{TakesLine}
 use Rattle.ac_tables.specs.declared.read.FiveTables.{FiveTables}
 use Rattle.ac_run.specs.declared.refusal.AskRefusal.TheVariants as ask
@@ -29,12 +29,13 @@ pub record IsWritten (outcome : Outcome) (old new : Option (List ℕ)) (given : 
   pub output : Appends old new outcome.output
 
 -- An outcome is written, by the answer of its writer: whole, with its status; after an error a first part of its output. A failed write raised the
--- count of failures.
-pub record Delivers (outcome : Outcome) (result : Result ℕ PageFault) (old new : Option (List ℕ)) (before after : ℕ) : Type 0 where
+-- count of failures; where the search stopped, it may.
+pub record Delivers (outcome : Outcome) (may : Type 0) (result : Result ℕ PageFault) (old new : Option (List ℕ)) (before after : ℕ) : Type 0 where
   pub few : IfOk result (λ status. status ≤ 1)
   pub ok : IfOk result (IsWritten outcome old new)
   pub part : OnErr result (TakesPart old new outcome.output)
   pub failed : result ≡ Err page_fault.WriteFailed → Rises before after
+  pub stopped : result ≡ Err page_fault.TooManyTries → may
   pub failures : before ≤ after
 
 -- why there is no cloud: the first fault of the tables
@@ -69,13 +70,19 @@ Explains remaining failures detail said from to line status =
     ⊎ (((3 ≤ status) × (status ≤ 5) × ((b : Bytes) → TellBytes remaining from b → said b ≡ refused line status))
     ⊎ ((line ≡ memory_line) × (status ≡ 7)))
 
--- Why a run gave no answer, by the line that tells it and its status: nothing was answered, and nothing written; or the output failed; or memory gave out. What
--- was written is a first part of the output.
-abbrev pub Ends : {R : Type 0} → (R → Option (List ℕ)) → (R → ℕ) → Option Paths → (Bytes → Outcome) → FiveTables R → FiveTables R → List ℕ → ℕ
+-- Why an answer broke off, by the line that tells it and its status: the output failed, memory gave out, or the search stopped, which it may.
+abbrev pub BreaksOff : Type 0 → List ℕ → ℕ → ℕ → ℕ → Type 0
+BreaksOff may line status before after =
+    ((line ≡ output_line) × (status ≡ 6) × Rises before after)
+    ⊎ (((line ≡ memory_line) × (status ≡ 7)) ⊎ ((line ≡ tries_line) × (status ≡ 8) × may))
+
+-- Why a run gave no answer, by the line that tells it and its status: nothing was answered, and nothing written; or the answer broke off, and what was written is
+-- a first part of the output.
+abbrev pub Ends : {R : Type 0} → (R → Option (List ℕ)) → (R → ℕ) → Option Paths → (Bytes → Outcome) → (Bytes → Type 0) → FiveTables R → FiveTables R → List ℕ → ℕ
     → Type 0 → Option (List ℕ) → Option (List ℕ) → ℕ → ℕ → Type 0
-Ends remaining failures detail said from to line status Untouched old new before after =
+Ends remaining failures detail said may from to line status Untouched old new before after =
     (Untouched × Explains remaining failures detail said from to line status)
-    ⊎ ((((line ≡ output_line) × (status ≡ 6) × Rises before after) ⊎ ((line ≡ memory_line) × (status ≡ 7)))
+    ⊎ (BreaksOff ((b : Bytes) → TellBytes remaining from b → may b) line status before after
     × ((b : Bytes) → TellBytes remaining from b → TakesPart old new (said b).output))
 
 -- The answer was given whole: its output, its line and its status.

@@ -25,11 +25,12 @@ pub data Command : Type 0 where
 abbrev pub Paths : Type 0
 Paths = FiveTables (List ℕ)
 
--- what is asked: the query, the version that reads it, and the paths where more is told
+-- what is asked: the query, the version that reads it, how many tries each search may make, and the paths where more is told
 pub record Task : Type 0 where
   pub command : Command
   pub query : List ℕ
   pub version : Version
+  pub tries : Option ℕ
   pub detail : Option Paths
 
 -- the token to judge, or to begin after
@@ -66,4 +67,4 @@ abbrev pub detail_shown : Option (Bor (FiveTables (Bor (List ℕ)))) → Option 
 detail_shown detail = option_map (λ paths. paths_shown paths.now) detail
 
 abbrev pub task_of : Job → Task
-task_of job = record { command = command_shown job.command; query = job.query.now; version = job.version; detail = detail_shown job.detail }
+task_of job = record { command = command_shown job.command; query = job.query.now; version = job.version; tries = job.tries; detail = detail_shown job.detail }

@@ -14,6 +14,9 @@ ghost use Rattle.ac_rules.specs.declared.verdict.Verdict.TheVariants as Verdict;
 ghost use Rattle.ac_report.specs.Pages.{IsAssignment};
 ghost use Rattle.ac_rules.specs.Pages.{rest};
 ghost use Rattle.ac_run.specs.Run.{Delivers};
+ghost use Rattle.ac_run.specs.Stops.{AnswerMayStop};
+ghost use Rattle.ac_report.specs.Findings.Explanation.Candidates.{ExplanationMayStop};
+ghost use Rattle.ac_search.specs.Shown.Walk.{MayStop};
 
 use crate::outputs::{detailed_line, push_counts, push_text, push_verdict, verdict_status};
 use crate::placements::write_fill;
@@ -33,26 +36,30 @@ use std::alloc::Global;
 
 // How much the tables told.
 fn write_counts<W: Sink>(cloud: &Cloud, out: &mut W) -> Result<u8, PageFault>
-    ensures { Delivers (written (counts (world_of cloud.now).sizes) 0) result (W.taken out.old)
+    ensures { Delivers (written (counts (world_of cloud.now).sizes) 0) ⊥ result (W.taken out.old)
         (W.taken out.new) (W.failures out.old) (W.failures out.new) }
 {
     push_counts(out, &cloud.counts())?;
     Ok(0)
 }
 
-// The candidates after a token, or all of them.
-fn walk_after<'a>(
+/// The candidates after a token, or all of them, in so many tries.
+pub(crate) fn walk_after<'a>(
     alloc: Global,
     cloud: &'a Cloud,
     query: &'a Query,
     token: &Option<Token>,
+    tries: Option<u64>,
 ) -> Result<Walk<'a>, NoMemory>
     ensures left { IfOk result (λ walk. ⟦<Walk<'a> as Source>⟧.left walk
         ≡ rest (providers_of cloud.now) (asked_of query.now) (option_map ids_of token.now)) }
     ensures assigned { IfOk result (λ walk. All (IsAssignment (providers_of cloud.now)
         (asked_of query.now)) (⟦<Walk<'a> as Source>⟧.left walk)) }
+    ensures stops { IfOk result (λ walk. ⟦<Walk<'a> as Source>⟧.may_stop walk
+        → MayStop tries (providers_of cloud.now) (asked_of query.now)
+        (option_map ids_of token.now)) }
 {
-    Walk::new(alloc, cloud, query, token.as_ref())
+    Ok(Walk::new(alloc, cloud, query, token.as_ref())?.within(tries))
 }
 
 // The tokens of a page, a line each.
@@ -62,13 +69,17 @@ fn write_lines<W: Sink>(
     cloud: &Cloud,
     query: &Query,
     token: &Option<Token>,
+    tries: Option<u64>,
     out: &mut W,
 ) -> Result<u8, PageFault>
     ensures { Delivers (page_lines (providers_of cloud.now) (asked_of query.now)
-        (option_map ids_of token.now)) result (W.taken out.old) (W.taken out.new) (W.failures out.old)
+        (option_map ids_of token.now))
+        (MayStop tries (providers_of cloud.now) (asked_of query.now)
+        (option_map ids_of token.now))
+        result (W.taken out.old) (W.taken out.new) (W.failures out.old)
         (W.failures out.new) }
 {
-    let mut source = walk_after(alloc, cloud, query, token)?;
+    let mut source = walk_after(alloc, cloud, query, token, tries)?;
     write_tokens(alloc, cloud, query, &mut source, out)?;
     Ok(0)
 }
@@ -81,13 +92,17 @@ fn write_body<W: Sink>(
     query: &Query,
     token: &Option<Token>,
     traits: bool,
+    tries: Option<u64>,
     out: &mut W,
 ) -> Result<u8, PageFault>
     ensures { Delivers (page_body (providers_of cloud.now) traits (asked_of query.now)
-        (option_map ids_of token.now)) result (W.taken out.old) (W.taken out.new) (W.failures out.old)
+        (option_map ids_of token.now))
+        (MayStop tries (providers_of cloud.now) (asked_of query.now)
+        (option_map ids_of token.now))
+        result (W.taken out.old) (W.taken out.new) (W.failures out.old)
         (W.failures out.new) }
 {
-    let mut source = walk_after(alloc, cloud, query, token)?;
+    let mut source = walk_after(alloc, cloud, query, token, tries)?;
     write_shown_page(alloc, cloud, query, traits, &mut source, out)?;
     Ok(0)
 }
@@ -100,20 +115,24 @@ fn write_rows<W: Sink>(
     query: &Query,
     token: &Option<Token>,
     traits: bool,
+    tries: Option<u64>,
     out: &mut W,
 ) -> Result<u8, PageFault>
     ensures { Delivers (page_rows (providers_of cloud.now) traits (asked_of query.now)
-        (option_map ids_of token.now)) result (W.taken out.old) (W.taken out.new) (W.failures out.old)
+        (option_map ids_of token.now))
+        (MayStop tries (providers_of cloud.now) (asked_of query.now)
+        (option_map ids_of token.now))
+        result (W.taken out.old) (W.taken out.new) (W.failures out.old)
         (W.failures out.new) }
 {
-    let mut source = walk_after(alloc, cloud, query, token)?;
+    let mut source = walk_after(alloc, cloud, query, token, tries)?;
     write_list(alloc, cloud, query, traits, &mut source, out)?;
     Ok(0)
 }
 
 // A verdict alone.
 fn write_plain<W: Sink>(verdict: Verdict, out: &mut W) -> Result<u8, PageFault>
-    ensures { Delivers (written (verdict_text verdict) (verdict_status verdict)) result
+    ensures { Delivers (written (verdict_text verdict) (verdict_status verdict)) ⊥ result
         (W.taken out.old) (W.taken out.new) (W.failures out.old) (W.failures out.new) }
 {
     push_verdict(out, verdict)?;
@@ -129,7 +148,7 @@ fn write_broken<W: Sink>(
     out: &mut W,
 ) -> Result<u8, PageFault>
     ensures { Delivers (written (detailed_text (providers_of assignment.now.cloud.now)
-        (asked_of assignment.now.query.now) assignment.now.list.now (Verdict.Broken rule)) 1) result
+        (asked_of assignment.now.query.now) assignment.now.list.now (Verdict.Broken rule)) 1) ⊥ result
         (W.taken out.old) (W.taken out.new) (W.failures out.old) (W.failures out.new) }
 {
     let detail = broken_detail(alloc, assignment, rule)?;
@@ -147,7 +166,7 @@ fn write_detailed<W: Sink>(
 ) -> Result<u8, PageFault>
     ensures { Delivers (written (detailed_text (providers_of assignment.now.cloud.now)
         (asked_of assignment.now.query.now) assignment.now.list.now verdict)
-        (verdict_status verdict)) result (W.taken out.old) (W.taken out.new) (W.failures out.old)
+        (verdict_status verdict)) ⊥ result (W.taken out.old) (W.taken out.new) (W.failures out.old)
         (W.failures out.new) }
 {
     match verdict {
@@ -168,7 +187,7 @@ fn write_judged<W: Sink>(
     requires slots { length list.now ≡ length (slots_of (asked_of query.now)) }
     requires providers { All (λ p. p < length (providers_of cloud.now)) list.now }
     ensures { Delivers (verdict_on (providers_of cloud.now) detail (asked_of query.now)
-        (Some list.now)) result (W.taken out.old) (W.taken out.new) (W.failures out.old)
+        (Some list.now)) ⊥ result (W.taken out.old) (W.taken out.new) (W.failures out.old)
         (W.failures out.new) }
 {
     let verdict = verify(cloud, query, list);
@@ -191,7 +210,7 @@ fn write_verdict<W: Sink>(
 ) -> Result<u8, PageFault>
     requires { length (ids_of token.now) ≡ length (slots_of (asked_of query.now)) }
     ensures { Delivers (verdict_line (providers_of cloud.now) detail (asked_of query.now)
-        (Some (ids_of token.now))) result (W.taken out.old) (W.taken out.new) (W.failures out.old)
+        (Some (ids_of token.now))) ⊥ result (W.taken out.old) (W.taken out.new) (W.failures out.old)
         (W.failures out.new) }
 {
     match token.locate(alloc, cloud) {
@@ -207,16 +226,18 @@ fn write_explanation<W: Sink>(
     alloc: Global,
     cloud: &Cloud,
     question: &Question,
+    tries: Option<u64>,
     out: &mut W,
 ) -> Result<u8, PageFault>
     ensures { Delivers (explanation (providers_of cloud.now) (asked_of question.now.query) None)
+        (ExplanationMayStop tries (providers_of cloud.now) (asked_of question.now.query))
         result (W.taken out.old) (W.taken out.new) (W.failures out.old) (W.failures out.new) }
 {
     let query = &question.query;
     let slots = all_slots(alloc, cloud, query)?;
     let trees = tree_counts(alloc, cloud, query)?;
-    let found = has_candidate(alloc, cloud, query, &trees)?;
-    let without = find_without(alloc, cloud, question, &trees, found)?;
+    let found = has_candidate(alloc, cloud, query, &trees, tries)?;
+    let without = find_without(alloc, cloud, question, &trees, found, tries)?;
     push_explanation(out, cloud, query, &slots, &trees, found)?;
     push_reasons(out, cloud, query, &without)?;
     Ok(explanation_status(found))
@@ -228,12 +249,15 @@ fn write_hosts<W: Sink>(
     alloc: Global,
     cloud: &Cloud,
     query: &Query,
+    tries: Option<u64>,
     out: &mut W,
 ) -> Result<u8, PageFault>
-    ensures { Delivers (host_rows (providers_of cloud.now) (asked_of query.now) None) result
+    ensures { Delivers (host_rows (providers_of cloud.now) (asked_of query.now) None)
+        (MayStop tries (providers_of cloud.now) (asked_of query.now) None)
+        result
         (W.taken out.old) (W.taken out.new) (W.failures out.old) (W.failures out.new) }
 {
-    let fits = fitting_roots(alloc, cloud, query)?;
+    let fits = fitting_roots(alloc, cloud, query, tries)?;
     let lacks = find_lacks(alloc, cloud, query, &fits)?;
     let text = hosts_text(alloc, cloud, query, &fits, &lacks)?;
     push_text(out, &text, hosts_status(&fits))
@@ -246,42 +270,48 @@ fn write_why<W: Sink>(
     cloud: &Cloud,
     query: &Query,
     host: u32,
+    tries: Option<u64>,
     out: &mut W,
 ) -> Result<u8, PageFault>
     requires { host < length (providers_of cloud.now) }
-    ensures { Delivers (why_not (providers_of cloud.now) (asked_of query.now) host) result
+    ensures { Delivers (why_not (providers_of cloud.now) (asked_of query.now) host)
+        (MayStop tries (providers_of cloud.now) (asked_of query.now) None)
+        result
         (W.taken out.old) (W.taken out.new) (W.failures out.old) (W.failures out.new) }
 {
-    let (text, status) = why_at(alloc, cloud, query, root_place(cloud, host))?;
+    let (text, status) = why_at(alloc, cloud, query, root_place(cloud, host), tries)?;
     push_text(out, &text, status)
 }
 
-/// Writes what is wanted of a cloud, and gives its status.
+/// Writes what is wanted of a cloud, and gives its status. Each search may make so many tries; without a number, as many as it takes.
 pub fn write_answer<W: Sink>(
     alloc: Global,
     cloud: &Cloud,
     wanted: &Wanted,
+    tries: Option<u64>,
     out: &mut W,
 ) -> Result<u8, PageFault>
     requires { IsSound (providers_of cloud.now) wanted.now }
-    ensures { Delivers (answer_to wanted.now (world_of cloud.now)) result (W.taken out.old)
+    ensures { Delivers (answer_to wanted.now (world_of cloud.now))
+        (AnswerMayStop wanted.now tries (providers_of cloud.now))
+        result (W.taken out.old)
         (W.taken out.new) (W.failures out.old) (W.failures out.new) }
 {
     match wanted {
         Wanted::Counts => write_counts(cloud, out),
         Wanted::Body(query, token, traits) => {
-            write_body(alloc, cloud, query, token, *traits, out)
+            write_body(alloc, cloud, query, token, *traits, tries, out)
         }
-        Wanted::Lines(query, token) => write_lines(alloc, cloud, query, token, out),
+        Wanted::Lines(query, token) => write_lines(alloc, cloud, query, token, tries, out),
         Wanted::Rows(query, token, traits) => {
-            write_rows(alloc, cloud, query, token, *traits, out)
+            write_rows(alloc, cloud, query, token, *traits, tries, out)
         }
-        Wanted::Fill(query, sum) => write_fill(alloc, cloud, query, *sum, out),
+        Wanted::Fill(query, sum) => write_fill(alloc, cloud, query, *sum, tries, out),
         Wanted::Verdict(query, token, detail) => {
             write_verdict(alloc, cloud, query, token, *detail, out)
         }
-        Wanted::Explanation(question) => write_explanation(alloc, cloud, question, out),
-        Wanted::Hosts(query) => write_hosts(alloc, cloud, query, out),
-        Wanted::Why(query, host) => write_why(alloc, cloud, query, *host, out),
+        Wanted::Explanation(question) => write_explanation(alloc, cloud, question, tries, out),
+        Wanted::Hosts(query) => write_hosts(alloc, cloud, query, tries, out),
+        Wanted::Why(query, host) => write_why(alloc, cloud, query, *host, tries, out),
     }
 }

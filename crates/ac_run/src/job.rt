@@ -50,6 +50,8 @@ pub struct Job<'a> {
     pub query: &'a str,
     /// The microversion of the API by which the query is read; for `Check` it says nothing.
     pub version: Version,
+    /// How many tries each search may make; without a number, as many as it takes.
+    pub tries: Option<u64>,
     /// The paths of the tables' files, where more is told: behind the line of a refusal what to do about it, and of a verdict of what a rule is broken.
     pub detail: Option<&'a Paths<'a>>,
 }

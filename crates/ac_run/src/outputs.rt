@@ -96,7 +96,7 @@ pub(crate) fn push_counts<W: Sink>(out: &mut W, counted: &Counts) -> Result<(), 
 /// Pushes a text that is at hand, and gives its status.
 pub(crate) fn push_text<W: Sink>(out: &mut W, text: &[u8], status: u8) -> Result<u8, PageFault>
     requires { status ≤ 1 }
-    ensures { Delivers (written text.now status) result (W.taken out.old) (W.taken out.new)
+    ensures { Delivers (written text.now status) ⊥ result (W.taken out.old) (W.taken out.new)
         (W.failures out.old) (W.failures out.new) }
 {
     push_all(out, text)?;

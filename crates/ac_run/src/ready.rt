@@ -12,6 +12,7 @@ ghost use Rattle.ac_run.specs.Feeds.Draining.{texts_shown};
 ghost use Rattle.ac_run.specs.Feeds.{Bytes, TellBytes, too_large};
 ghost use Rattle.ac_run.specs.Tasks.{detail_shown, task_of};
 ghost use Rattle.ac_run.specs.Refusals.{line_told, status_told};
+ghost use Rattle.ac_run.specs.Stops.{AnswerMayStop, TaskMayStop};
 ghost use Rattle.ac_run.specs.Run.{Explains, ExplainsTables, IsStated};
 
 use crate::details::{asked_detail, fault_detail, reading_detail};
@@ -112,6 +113,9 @@ pub(crate) fn make_ready<R: Feed>(
         (remedy_in (task_of job.now) (world_of ready.cloud))
         (answer_to ready.wanted (world_of ready.cloud))) }
     ensures sound { IfOk result (λ ready. IsSound (providers_of ready.cloud) ready.wanted) }
+    ensures stops { IfOk result (λ ready. (b : Bytes) → TellBytes R.remaining inputs.old b
+        → AnswerMayStop ready.wanted job.now.tries (providers_of ready.cloud)
+        → TaskMayStop (task_of job.now) b) }
     ensures fault { IfErr result (λ told. Explains R.remaining R.failures (task_of job.now).detail
         (answer (task_of job.now)) inputs.old inputs.new (line_told told) (status_told told)) }
 {

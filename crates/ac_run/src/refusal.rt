@@ -45,6 +45,8 @@ pub enum Refusal {
     Asked(AskRefusal),
     /// The output can't be written.
     Output,
+    /// The search made as many tries as it may.
+    TooManyTries,
     /// A growth was refused.
     NoMemory,
 }

@@ -6,8 +6,9 @@ ghost use Rattle.ac_tables.specs.declared.fault.Table.{Table};
 ghost use Rattle.ac_run.specs.Answer.{answer};
 ghost use Rattle.ac_run.specs.Feeds.{Bytes, FeedRose, TellBytes};
 ghost use Rattle.ac_run.specs.Tasks.{task_of};
-ghost use Rattle.ac_run.specs.Lines.{memory_line, output_line};
+ghost use Rattle.ac_run.specs.Lines.{memory_line, output_line, tries_line};
 ghost use Rattle.ac_run.specs.Refusals.{line_told, status_told};
+ghost use Rattle.ac_run.specs.Stops.{TaskMayStop};
 ghost use Rattle.ac_run.specs.Run.{Ends, FailsOr, IsAnswered, IsRefused, IsUnread, IsWritten};
 ghost use Rattle.ac_base.specs.Writing.{TakesLine};
 
@@ -32,23 +33,24 @@ fn answer_job<R: Feed, W: Sink>(
     ensures ok { IfOk result (λ status. (b : Bytes) → TellBytes R.remaining inputs.old b
         → IsWritten (answer (task_of job.now) b) (W.taken out.old) (W.taken out.new) status) }
     ensures fault { IfErr result (λ told. Ends R.remaining R.failures (task_of job.now).detail
-        (answer (task_of job.now)) inputs.old inputs.new (line_told told) (status_told told)
-        (out.new ≡ out.old)
+        (answer (task_of job.now)) (TaskMayStop (task_of job.now)) inputs.old inputs.new
+        (line_told told) (status_told told) (out.new ≡ out.old)
         (W.taken out.old) (W.taken out.new) (W.failures out.old) (W.failures out.new)) }
     ensures failures { W.failures out.old ≤ W.failures out.new }
 {
     let ready = make_ready(alloc, job, inputs)?;
-    match write_answer(alloc, &ready.cloud, &ready.wanted, out) {
+    match write_answer(alloc, &ready.cloud, &ready.wanted, job.tries, out) {
         Ok(status) => Ok(status),
         Err(PageFault::WriteFailed) => Err(Refused::of(alloc, Refusal::Output)),
         Err(PageFault::NoMemory) => Err(Refused::of(alloc, Refusal::NoMemory)),
+        Err(PageFault::TooManyTries) => Err(Refused::of(alloc, Refusal::TooManyTries)),
     }
 }
 
 /// Runs a job: reads the tables in their order, then the query, then the token, and writes the answer. Answers the status.
 ///
 /// 0: written; 1: the verdict is no candidate, or there is none to explain; 3: a table or its reading refused; 4: the query refused; 5: the token
-/// refused; 6: the output failed; 7: want of memory. With 3 to 7 a line on the error sink says so.
+/// refused; 6: the output failed; 7: want of memory; 8: the search made as many tries as it may. With 3 to 8 a line on the error sink says so.
 pub fn run<R: Feed, W: Sink, E: Sink>(
     alloc: Global,
     job: &Job,
@@ -56,8 +58,8 @@ pub fn run<R: Feed, W: Sink, E: Sink>(
     out: &mut W,
     err: &mut E,
 ) -> u8
-    // Where memory suffices and no device fails: exactly the answer.
-    ensures answered { result ≢ 7
+    // Where memory and tries suffice and no device fails: exactly the answer.
+    ensures answered { result ≢ 7 → result ≢ 8
         → ((t : Table) → FeedRose R.failures inputs.old inputs.new t → ⊥)
         → (Rises (W.failures out.old) (W.failures out.new) → ⊥)
         → (Rises (E.failures err.old) (E.failures err.new) → ⊥)
@@ -89,9 +91,13 @@ pub fn run<R: Feed, W: Sink, E: Sink>(
         (E.failures err.old) (E.failures err.new) output_line }
     ensures memory { result ≡ 7 → TakesLine (E.taken err.old) (E.taken err.new) (E.failures err.old)
         (E.failures err.new) memory_line }
+    ensures tries { result ≡ 8 → TakesLine (E.taken err.old) (E.taken err.new) (E.failures err.old)
+        (E.failures err.new) tries_line }
+    ensures stopped { result ≡ 8 → (b : Bytes) → TellBytes R.remaining inputs.old b
+        → TaskMayStop (task_of job.now) b }
     ensures part { 6 ≤ result → (b : Bytes) → TellBytes R.remaining inputs.old b
         → TakesPart (W.taken out.old) (W.taken out.new) (answer (task_of job.now) b).output }
-    ensures status { Contains (0 ∷ 1 ∷ 3 ∷ 4 ∷ 5 ∷ 6 ∷ 7 ∷ []) result }
+    ensures status { Contains (0 ∷ 1 ∷ 3 ∷ 4 ∷ 5 ∷ 6 ∷ 7 ∷ 8 ∷ []) result }
     ensures silent { result ≤ 1 → err.new ≡ err.old }
     ensures failures { W.failures out.old ≤ W.failures out.new }
     ensures err_failures { E.failures err.old ≤ E.failures err.new }

@@ -284,6 +284,7 @@ fn left_by(rt: &(impl Abort + AllocGlobal), case: &Case, turns: Turns) -> Result
         command: with_text(case.command, text.as_deref()),
         query: query.as_str(),
         version: case.version,
+        tries: None,
         detail: if turns.detail { Some(&PATHS) } else { None },
     };
     run_over(alloc, &case.rows, &job, turns)

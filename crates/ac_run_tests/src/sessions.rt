@@ -76,6 +76,7 @@ fn run_texts(alloc: Global, texts: &Texts, turns: Turns) -> Result<Left, AllocEr
     let (status, out) = run_session(
         alloc,
         Version::V139,
+        None,
         detail,
         &mut inputs,
         &mut lines,

@@ -5,11 +5,13 @@
 //! `ac_rules`, handed on.
 #![tactic(auto)]
 
+mod fault;
 mod hosts;
 pub mod laws;
 mod least;
 pub mod walk;
 
-pub use ac_rules::{Plain, Rule, Source, Verdict, verify};
+pub use ac_rules::{Plain, Rule, Source, TooManyTries, Verdict, verify};
+pub use fault::SearchFault;
 pub use hosts::{fits_root, fitting_roots};
 pub use walk::Walk;

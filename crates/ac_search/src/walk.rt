@@ -1,5 +1,5 @@
 //! The walk: candidates found slot by slot, leaving a path as soon as it can hold none.
-ghost use Rattle.std.specs.Prelude.{◌≡◌, ◌<◌, length, map, take, slice_index, true, false, None, Some, IfOk, IfSome};
+ghost use Rattle.std.specs.Prelude.{◌≡◌, ◌<◌, length, map, take, slice_index, true, false, None, Some, IfOk, IfSome, OnErr};
 ghost use Rattle.std.specs.List.{filter};
 ghost use Rattle.std.proofs.Props.{props};
 ghost use Rattle.std.specs.Bool.{MatchBool};
@@ -27,7 +27,7 @@ use ac_cloud::Cloud;
 use ac_prune::{Ledger, Lookout, all_choices};
 use ac_query::{Query, Token};
 use ac_rules::slots::count_slots;
-use ac_rules::source::Source;
+use ac_rules::source::{Source, TooManyTries};
 use std::alloc::Global;
 use steps::start_of;
 
@@ -38,6 +38,8 @@ enum Step {
     Given,
     /// There is more to try.
     Went,
+    /// There is more to try, and it has made as many tries as it may.
+    Stopped,
     /// Nothing is left to try.
     Ended,
 }
@@ -63,6 +65,8 @@ pub struct Walk<'a> {
     // Whether the path is a front of the least list.
     seeking: bool,
     probes: u64,
+    // The most tries that it may make; without, as many as it takes.
+    most: Option<u64>,
     ghost resumed: { least.items ≡ least_of (providers_in ledger) (length (slots_of (asked_in ledger))) (option_map (λ ids. ids.items) after) },
     ghost listed: { map (λ v. v.items) choices.items ≡ choices_of (providers_in ledger) (asked_in ledger) },
     ghost looking: { AreTests (providers_in ledger) (asked_in ledger) lookout } by { AreTests-prop (providers_in ledger) (asked_in ledger) lookout },
@@ -74,8 +78,8 @@ pub struct Walk<'a> {
 }
 
 impl<'a> Walk<'a> {
-    ghost use Rattle.ac_search.specs.Shown.Walk.{cloud_in, query_in, token_in, roots_in, probes_in, given_in, left_of};
-    ghost use Rattle.ac_search.specs.Search.Steps.{StepGives, Goes, Advances, Finishes};
+    ghost use Rattle.ac_search.specs.Shown.Walk.{cloud_in, query_in, token_in, roots_in, probes_in, most_in, given_in, left_of, is_spent, StaysWithin};
+    ghost use Rattle.ac_search.specs.Search.Steps.{StepGives, Goes, Advances, Finishes, Stops};
 
     /// Begins with the first candidate after the ids of a token, or with the first of all. It takes all its memory
     /// here; `next` takes none.
@@ -93,9 +97,26 @@ impl<'a> Walk<'a> {
         ensures token { IfOk result (λ walk. token_in walk
             ≡ option_map (λ t. tokens.ids_of t.now) after.entry) }
         ensures probes { IfOk result (λ walk. probes_in walk ≡ 0) }
+        ensures most { IfOk result (λ walk. most_in walk ≡ None) }
         ensures last { IfOk result (λ walk. given_in walk ≡ None) }
     {
         Walk::begin(alloc, cloud, query, after, None)
+    }
+
+    /// It makes at most so many tries, and then stops; without a number, it makes as many as it takes.
+    pub fn within(self, tries: Option<u64>) -> Walk<'a>
+        ensures left { left_of result ≡ left_of self.entry }
+        ensures cloud { cloud_in result ≡ cloud_in self.entry }
+        ensures query { query_in result ≡ query_in self.entry }
+        ensures token { token_in result ≡ token_in self.entry }
+        ensures roots { roots_in result ≡ roots_in self.entry }
+        ensures probes { probes_in result ≡ probes_in self.entry }
+        ensures most { most_in result ≡ tries }
+        ensures last { given_in result ≡ given_in self.entry }
+    {
+        let mut walk = self;
+        walk.most = tries;
+        walk
     }
 
     /// Begins with the first candidate that stands at one of some marked roots.
@@ -111,6 +132,7 @@ impl<'a> Walk<'a> {
             (candidates (providers_of cloud.now) (asked_of query.now))) }
         ensures cloud { IfOk result (λ walk. cloud_in walk ≡ providers_of cloud.now) }
         ensures query { IfOk result (λ walk. query_in walk ≡ asked_of query.now) }
+        ensures token { IfOk result (λ walk. token_in walk ≡ None) }
         ensures roots { IfOk result (λ walk. roots_in walk ≡ Some roots.items) }
     {
         Walk::begin(alloc, cloud, query, None, Some(roots))
@@ -135,6 +157,7 @@ impl<'a> Walk<'a> {
             ≡ option_map (λ t. tokens.ids_of t.now) after.entry) }
         ensures roots { IfOk result (λ walk. walk.roots ≡ roots) }
         ensures probes { IfOk result (λ walk. probes_in walk ≡ 0) }
+        ensures most { IfOk result (λ walk. most_in walk ≡ None) }
         ensures last { IfOk result (λ walk. given_in walk ≡ None) }
     {
         let width = count_slots(query);
@@ -158,6 +181,7 @@ impl<'a> Walk<'a> {
             depth: 0,
             seeking: true,
             probes: 0,
+            most: None,
         })
     }
 
@@ -168,25 +192,44 @@ impl<'a> Walk<'a> {
         self.probes
     }
 
-    // Tries the next choice of its slot, or leaves the slot where it has none.
+    // Whether it has made as many tries as it may.
+    fn is_spent(&self) -> bool
+        ensures { result ≡ is_spent (most_in self.now) (probes_in self.now) }
+    {
+        match self.most {
+            Some(most) => self.probes >= most,
+            None => false,
+        }
+    }
+
+    // Tries the next choice of its slot, if it may, or leaves the slot where it has none.
     fn step(&mut self) -> Step
-        ensures { StepGives result self.old self.new }
+        ensures gives { StepGives result self.old self.new }
+        ensures within { StaysWithin self.old self.new }
     {
         match self.choice() {
-            Some(provider) => self.probe(provider),
             None => self.leave(),
+            Some(provider) => {
+                if self.is_spent() {
+                    return Step::Stopped;
+                }
+                self.probe(provider)
+            }
         }
     }
 
     // Goes on to the next candidate, where there is one.
-    pub(crate) fn advance(&mut self) -> bool
-        ensures { MatchBool result (Advances self.old self.new) (Finishes self.old self.new) }
+    pub(crate) fn advance(&mut self) -> Result<bool, TooManyTries>
+        ensures found { IfOk result (λ given.
+            MatchBool given (Advances self.old self.new) (Finishes self.old self.new)) }
+        ensures stopped { OnErr result (Stops self.old self.new) }
     {
         'steps: loop {
             self.pass();
             match self.step() {
-                Step::Given => return true,
-                Step::Ended => return false,
+                Step::Given => return Ok(true),
+                Step::Ended => return Ok(false),
+                Step::Stopped => return Err(TooManyTries),
                 Step::Went => {}
             }
         }
@@ -194,17 +237,19 @@ impl<'a> Walk<'a> {
 }
 
 impl<'a> Source for Walk<'a> {
-    ghost use Rattle.ac_search.specs.Shown.Walk.{left_of, Tries};
+    ghost use Rattle.ac_search.specs.Shown.Walk.{left_of, may_stop, Tries};
 
     ghost left = { left_of };
 
+    ghost may_stop = { may_stop };
+
     ghost moves = { Tries };
 
-    fn next(&mut self) -> Option<&[u32]> {
-        if self.advance() {
-            Some(self.path.as_slice())
+    fn next(&mut self) -> Result<Option<&[u32]>, TooManyTries> {
+        if self.advance()? {
+            Ok(Some(self.path.as_slice()))
         } else {
-            None
+            Ok(None)
         }
     }
 

@@ -10,7 +10,7 @@ use crate::clouds::{ONE, expanded, scene_of};
 use ac_base::{MemSink, Sink, Turn};
 use ac_query::Query;
 use ac_report::{PageFault, write_list, write_page, write_tokens};
-use ac_rules::Source;
+use ac_rules::{Source, TooManyTries};
 use ac_tables::Cloud;
 use std::alloc::{AllocError, Global};
 use std::test::Fail;
@@ -29,14 +29,14 @@ struct Lists<'a> {
 impl<'a> Source for Lists<'a> {
     ghost left = { λ s. map (λ list. list.now) (drop s.at s.lists.now) };
 
-    fn next(&mut self) -> Option<&[u32]> {
+    fn next(&mut self) -> Result<Option<&[u32]>, TooManyTries> {
         self.calls = self.calls.saturating_add(1);
         if self.at == self.lists.len() {
-            return None;
+            return Ok(None);
         }
         let list = self.lists[self.at];
         self.at += 1;
-        Some(list)
+        Ok(Some(list))
     }
 }
 

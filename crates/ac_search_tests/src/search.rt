@@ -56,16 +56,17 @@ fn written<S: Source>(
     let mut text = String::new(alloc);
     for _ in 0..most {
         match source.next() {
-            Some(list) => {
+            Ok(Some(list)) => {
                 text.push_str(ends(alloc, cloud, list)?.as_str())?;
                 text.push('/')?;
             }
-            None => {
-                if source.next().is_none() {
+            Ok(None) => {
+                if source.next().is_ok_and(|list| list.is_none()) {
                     text.push('.')?;
                 }
                 return Ok(text);
             }
+            Err(_) => return Ok(text),
         }
     }
     Ok(text)
@@ -90,7 +91,7 @@ fn mark_roots(cloud: &Cloud, query: &Query, list: &[u32], marks: &mut [bool]) {
 // Whether the roots that fit are those at which the lists of a plain source stand, where these end in time.
 fn hosts_agree(alloc: Global, scene: &Scene, most: u32) -> Result<bool, AllocError> {
     let (cloud, query) = (&scene.cloud, &scene.query);
-    let Ok(fits) = fitting_roots(alloc, cloud, query) else {
+    let Ok(fits) = fitting_roots(alloc, cloud, query, None) else {
         return Ok(false);
     };
     let Ok(mut plain) = Plain::new(alloc, cloud, query, None) else {
@@ -99,8 +100,8 @@ fn hosts_agree(alloc: Global, scene: &Scene, most: u32) -> Result<bool, AllocErr
     let mut marks = vec![in alloc; false; cloud.len() as usize]?;
     for _ in 0..most {
         match plain.next() {
-            Some(list) => mark_roots(cloud, query, list, &mut marks),
-            None => return Ok(fits.as_slice() == marks.as_slice()),
+            Ok(Some(list)) => mark_roots(cloud, query, list, &mut marks),
+            Ok(None) | Err(_) => return Ok(fits.as_slice() == marks.as_slice()),
         }
     }
     Ok(true)

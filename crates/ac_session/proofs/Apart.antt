@@ -10,8 +10,9 @@ use Rattle.std.specs.List.{list_all, slice_split}
 use Rattle.ac_rules.specs.Together.{is_empty}
 use Rattle.ac_run.specs.Answer.{Outcome}
 use Rattle.ac_session.specs.Frames.{begins_line, behind_status, end_line, escaped, is_marked, last_newline, lines_written}
-use Rattle.ac_session.specs.Laws.Apart.{AnswersApart, SessionsApart, answers_of, answers_read, ended, first_answer, is_end_line, up_to_end}
+use Rattle.ac_session.specs.Laws.Apart.{AnswersApart, SessionsApart, StoppedApart, answers_of, answers_read, answers_with, ended, first_answer, is_end_line, up_to_end}
 use Rattle.ac_session.specs.Lines.{is_newline}
+use Rattle.ac_session.specs.Tries.{text_with, turn_at}
 use Rattle.ac_session.specs.Turns.{answer_text, session_text, text_of, turn_of}
 use Rattle.ac_session.proofs.Escaped.{marked_inner}
 use Rattle.ac_session.proofs.Leading.Firsts.{before_plain}
@@ -141,3 +142,12 @@ sessions_apart version world (given ∷ others) =
     let turn = turn_of version world given in
     turn_read (text_of turn) (session_text version turn.world others) (answers_of version turn.world others) (answers_apart version world given)
     (sessions_apart version turn.world others)
+
+-- where searches stopped as well
+pub stopped_apart : StoppedApart
+stopped_apart version world [] lines = sessions_apart version world lines
+stopped_apart version world (stop ∷ stops) [] = refl
+stopped_apart version world (stop ∷ stops) (given ∷ others) =
+    let turn = turn_at version world stop given in
+    turn_read (text_of turn) (text_with version turn.world stops others) (answers_with version turn.world stops others) (any_read turn.answer)
+    (stopped_apart version turn.world stops others)

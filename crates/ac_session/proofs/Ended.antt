@@ -1,23 +1,31 @@
 -- What a session answers, by what became of its tables.
-use Rattle.std.proofs.Common.{◌≡◌, ◌≢◌, ℕ, ◌≤◌, zero, suc, List, [], ◌∷◌, Option, Some, None, inl, inr, refl, subst, arith}
+use Rattle.std.proofs.Common.{◌≡◌, ◌≢◌, ℕ, ◌≤◌, zero, suc, List, [], ◌∷◌, ◌++◌, Option, Some, None, inl, inr, refl, sym, ap, subst, arith}
 use Rattle.std.specs.Prelude.{⊤, Contains}
-use Rattle.std.specs.Io.KnownBytes.{Appends}
+use Rattle.std.specs.Io.KnownBytes.{Appends, append_known}
 use Rattle.ac_base.specs.Devices.{Rises}
+use Rattle.ac_base.specs.Gathered.{IsFirstPart}
 use Rattle.ac_base.specs.Writing.{TakesLine}
-use Rattle.ac_cloud.specs.World.{World}
+use Rattle.ac_cloud.specs.World.{Provider, World}
 use Rattle.ac_query.specs.declared.version.Version.{Version}
 use Rattle.ac_run.proofs.Attempted.{in_world}
+use Rattle.ac_query.specs.Asked.{Asked as Query}
+use Rattle.ac_report.specs.Findings.Explanation.Candidates.{ExplanationMayStop}
 use Rattle.ac_run.proofs.Told.{ends_answered, ends_tables}
-use Rattle.ac_run.specs.Answer.{Outcome, past_tables, size_refused, table_refused, told}
+use Rattle.ac_run.specs.Answer.{Outcome, past_tables, size_refused, table_refused, told, written}
 use Rattle.ac_run.specs.Feeds.{Bytes, FeedRose, TellBytes, too_large}
 use Rattle.ac_run.specs.Wanted.Given.{tables_in}
 use Rattle.ac_run.specs.Lines.{memory_line}
 use Rattle.ac_run.specs.Run.{Ends, Explains, FailsOr, IsAnswered, IsRefused, IsStated, IsUnread}
-use Rattle.ac_run.specs.Tasks.{Paths}
-use Rattle.ac_session.proofs.Stood.{none_added}
-use Rattle.ac_session.specs.Sessions.{held, session_answer}
+use Rattle.ac_run.specs.Stops.{SearchMayStop}
+use Rattle.ac_run.specs.Tasks.{Command, Paths}
+use Rattle.ac_run.specs.Tasks as command
+use Rattle.ac_session.proofs.Stood.{first_none, none_added}
+use Rattle.ac_session.specs.Lines.{Given, line, too_long, end}
+use Rattle.ac_session.specs.Questions.{Asked, job, fill, claim, release, usages, nothing, unknown, wrong_number, asked_of}
+use Rattle.ac_session.specs.Sessions.{held, held_with, session_answer, session_answer_with}
 use Rattle.ac_session.specs.Standing.{stop_status}
-use Rattle.ac_session.specs.Turns.{lines_in, session_text}
+use Rattle.ac_session.specs.Tries.{AreStops, AskedMayStop, GivenMayStop, WithStops, text_with}
+use Rattle.ac_session.specs.Turns.{lines_in, session_text, text_of, turn_of}
 use Rattle.ac_session.specs.declared.session.Stop.{Stop}
 use Rattle.ac_session.specs.declared.session.Stop.TheVariants as stop
 use Rattle.ac_tables.specs.Tables.{tables_fault, world_stated}
@@ -43,21 +51,109 @@ not_six n (zero, low, is) six = absurd (omega (arith, is, six))
 not_six n (suc zero, low, is) six = absurd (omega (arith, is, six))
 not_six n (suc (suc k), low, is) six = absurd (omega (arith, low))
 
+pub not_eight : (n : ℕ) → Contains (3 ∷ 7 ∷ []) n → n ≡ 8 → ⊥
+not_eight n (zero, low, is) eight = absurd (omega (arith, is, eight))
+not_eight n (suc zero, low, is) eight = absurd (omega (arith, is, eight))
+not_eight n (suc (suc k), low, is) eight = absurd (omega (arith, low))
+
 -- a session that stops with another status than 7 does so by a device
 pub stops_by_device : (s : Stop) (P Q : Type 0) → (s ≡ stop.Questions → P) → (s ≡ stop.Output → Q) → (stop_status s ≡ 7 → ⊥) → (P → ⊥) → (Q → ⊥) → ⊥
 stops_by_device stop.Questions P Q unread unwritten seven p q = p (unread refl)
 stops_by_device stop.Output P Q unread unwritten seven p q = q (unwritten refl)
 stops_by_device stop.NoMemory P Q unread unwritten seven p q = seven refl
 
+-- ---- without a number of tries no search stops
+
+explanation_none : (all : List Provider) (asked : Query) → ExplanationMayStop None all asked → ⊥
+explanation_none all asked may = elim may [
+  | inl found ↦ found
+  | inr without ↦ elim without [ inl subtree ↦ subtree.2 | inr rest ↦ elim rest [ inl policy ↦ policy | inr required ↦ required ] ]
+]
+
+search_none : (asks : Command) (all : List Provider) (asked : Query) → SearchMayStop asks None all asked → ⊥
+search_none command.check all asked may = may
+search_none (command.candidates after traits) all asked may = may
+search_none (command.tokens after) all asked may = may
+search_none (command.list after traits) all asked may = may
+search_none (command.fill sum) all asked may = may
+search_none (command.verify token) all asked may = may
+search_none command.explain all asked may = explanation_none all asked may
+search_none command.hosts all asked may = may
+search_none (command.why host) all asked may = may
+
+asked_none : (version : Version) (world : World) (asked : Asked) → AskedMayStop None version world asked → ⊥
+asked_none version world (job task) may = search_none task.command world.providers _ may.0
+asked_none version world (fill query) may = may.0
+asked_none version world (claim query token) may = may
+asked_none version world (release query token) may = may
+asked_none version world usages may = may
+asked_none version world nothing may = may
+asked_none version world unknown may = may
+asked_none version world wrong_number may = may
+
+given_none : (version : Version) (world : World) (given : Given) → GivenMayStop None version world given → ⊥
+unfolding GivenMayStop
+given_none version world (line text) may = asked_none version world (asked_of version text) may
+given_none version world too_long may = may
+given_none version world end may = may
+
+-- so each line is answered whole
+whole_text : (version : Version) (world : World) (stops : List (Option (List ℕ))) (lines : List Given) → AreStops None version world stops lines
+    → text_with version world stops lines ≡ session_text version world lines
+whole_text version world [] lines are = refl
+whole_text version world (stop ∷ stops) [] are = refl
+whole_text version world (None ∷ stops) (given ∷ others) are =
+    ap (λ l. text_of (turn_of version world given) ++ l) (whole_text version (turn_of version world given).world stops others are.1)
+whole_text version world (Some written ∷ stops) (given ∷ others) are = absurd (given_none version world given are.0.0)
+
+never_stops : (tries : Option ℕ) (version : Version) (world : World) (q : List ℕ) → tries ≡ None → (P : List ℕ → Type 0)
+    → WithStops tries version world q P → P (session_text version world (lines_in q))
+never_stops tries version world q none P found =
+    subst P (whole_text version world found.0 (lines_in q) (subst (λ t. AreStops t version world found.0 (lines_in q)) none found.1)) found.2
+
 -- ---- a world was stated
 
-pub stated : (detail : Option Paths) (version : Version) (b : Bytes) (q : List ℕ) (world : World) → IsStated b world → session_answer detail version b q ≡ held version world q
+stated : (detail : Option Paths) (version : Version) (b : Bytes) (q : List ℕ) (world : World) → IsStated b world → session_answer detail version b q ≡ held version world q
 unfolding session_answer
 stated detail version b q world = in_world detail b (λ world. held version world q) world
 
-pub is_held : (version : Version) (world : World) (q : List ℕ) (a c err : Option (List ℕ)) → Appends a c (session_text version world (lines_in q))
-    → IsAnswered (held version world q) a c err err 0
-is_held version world q a c err h = record { output = h; line = none_added err [] refl; status = refl }
+module _ (tries : Option ℕ) (detail : Option Paths) (version : Version) (b : Bytes) (q : List ℕ) (world : World) (is : IsStated b world) where
+  -- what may be written of its questions is said of the bytes
+  stated_with : (P : Outcome → Type 0) → WithStops tries version world q (λ text. P (written text 0))
+      → (stops : List (Option (List ℕ))) × AreStops tries version (world_stated (tables_in b)) stops (lines_in q) × P (session_answer_with detail version b stops q)
+  unfolding session_answer_with
+  stated_with P found = (
+    found.0,
+    subst (λ w. AreStops tries version w found.0 (lines_in q)) is.states found.1,
+    subst P (sym (in_world detail b (λ world. held_with version world found.0 q) world is)) found.2,
+  )
+
+  pub answered_with : (a c e f : Option (List ℕ)) (n : ℕ) → WithStops tries version world q (λ text. IsAnswered (written text 0) a c e f n)
+      → (stops : List (Option (List ℕ))) × AreStops tries version (world_stated (tables_in b)) stops (lines_in q)
+      × IsAnswered (session_answer_with detail version b stops q) a c e f n
+  answered_with a c e f n = stated_with (λ o. IsAnswered o a c e f n)
+
+  pub part_with : (a c : Option (List ℕ)) → WithStops tries version world q (λ text. IsFirstPart (append_known a text) c)
+      → (stops : List (Option (List ℕ))) × AreStops tries version (world_stated (tables_in b)) stops (lines_in q)
+      × IsFirstPart (append_known a (session_answer_with detail version b stops q).output) c
+  part_with a c = stated_with (λ o. IsFirstPart (append_known a o.output) c)
+
+  -- and whole, without a number of tries
+  pub answered_whole : tries ≡ None → (a c e f : Option (List ℕ)) (n : ℕ) → WithStops tries version world q (λ text. IsAnswered (written text 0) a c e f n)
+      → IsAnswered (session_answer detail version b q) a c e f n
+  answered_whole none a c e f n found =
+      subst (λ o. IsAnswered o a c e f n) (sym (stated detail version b q world is))
+      (never_stops tries version world q none (λ text. IsAnswered (written text 0) a c e f n) found)
+
+  pub part_whole : tries ≡ None → (a c : Option (List ℕ)) → WithStops tries version world q (λ text. IsFirstPart (append_known a text) c)
+      → IsFirstPart (append_known a (session_answer detail version b q).output) c
+  part_whole none a c found =
+      subst (λ o. IsFirstPart (append_known a o.output) c) (sym (stated detail version b q world is))
+      (never_stops tries version world q none (λ text. IsFirstPart (append_known a text) c) found)
+
+-- the questions are at their end
+pub is_held : (a c err : Option (List ℕ)) (text : List ℕ) → Appends a c text → IsAnswered (written text 0) a c err err 0
+is_held a c err text h = record { output = h; line = none_added err [] refl; status = refl }
 
 -- ---- the tables are refused
 
@@ -77,7 +173,7 @@ any_said detail b say other answers = by (too_large b) (tables_fault (tables_in 
 module _ {R : Type 0} (remaining : R → Option (List ℕ)) (failures : R → ℕ) (detail : Option Paths) (version : Version) (from to : FiveTables R) (line : List ℕ) (status : ℕ)
     (why : (say : World → Outcome) → Explains remaining failures detail (λ b. past_tables detail b say) from to line status)
     (err_old err_new : Option (List ℕ)) (before after : ℕ) (told : TakesLine err_old err_new before after line) where
-  ends : (q : List ℕ) (out : Option (List ℕ)) (n : ℕ) → Ends remaining failures detail (λ b. session_answer detail version b q) from to line status ⊤ out out n n
+  ends : (q : List ℕ) (out : Option (List ℕ)) (n : ℕ) → Ends remaining failures detail (λ b. session_answer detail version b q) (λ b. ⊥) from to line status ⊤ out out n n
   unfolding session_answer
   ends q out n = inl (tt, why (λ world. held version world q))
 
@@ -90,7 +186,7 @@ module _ {R : Type 0} (remaining : R → Option (List ℕ)) (failures : R → �
 
   pub unread : status ≡ 3 → (failed : Option Table) × FailsOr (λ t. IsUnread (FeedRose failures from to t) detail t err_old err_new before after)
       ((b : Bytes) → TellBytes remaining from b → (q : List ℕ) → IsRefused (session_answer detail version b q) err_old err_new before after status) failed
-  unread three = by (ends_tables remaining failures detail (λ b. session_answer detail version b []) from to line status ⊤ None None (λ _. refl) 0 0 (ends [] None 0) err_old err_new before after told three)
+  unread three = by (ends_tables remaining failures detail (λ b. session_answer detail version b []) (λ b. ⊥) from to line status ⊤ None None (λ _. refl) 0 0 (ends [] None 0) err_old err_new before after told three)
     where
       by : (failed : Option Table) × FailsOr (λ t. IsUnread (FeedRose failures from to t) detail t err_old err_new before after)
           ((b : Bytes) → TellBytes remaining from b → IsRefused (session_answer detail version b []) err_old err_new before after status) failed
@@ -106,7 +202,20 @@ module _ {R : Type 0} (remaining : R → Option (List ℕ)) (failures : R → �
   ]
 
   -- where no device failed
-  pub refused_whole : status ≢ 7 → ((t : Table) → FeedRose failures from to t → ⊥) → (n : ℕ) → (Rises n n → ⊥) → (Rises before after → ⊥) → (out : Option (List ℕ)) (b : Bytes)
-      → TellBytes remaining from b → (q : List ℕ) → IsAnswered (session_answer detail version b q) out out err_old err_new status
-  refused_whole seven feeds n output whole out b tell q =
-      ends_answered remaining failures detail (λ b. session_answer detail version b q) from to line status ⊤ out out (λ _. refl) n n (ends q out n) err_old err_new before after told seven feeds output whole b tell
+  pub refused_whole : status ≢ 7 → status ≢ 8 → ((t : Table) → FeedRose failures from to t → ⊥) → (n : ℕ) → (Rises n n → ⊥) → (Rises before after → ⊥)
+      → (out : Option (List ℕ)) (b : Bytes) → TellBytes remaining from b → (q : List ℕ) → IsAnswered (session_answer detail version b q) out out err_old err_new status
+  refused_whole seven eight feeds n output whole out b tell q =
+      ends_answered remaining failures detail (λ b. session_answer detail version b q) (λ b. ⊥) from to line status ⊤ out out (λ _. refl) n n (ends q out n)
+      err_old err_new before after told seven eight feeds output whole b tell
+
+-- no line is answered, and no search stopped
+module _ (tries : Option ℕ) (detail : Option Paths) (version : Version) (b : Bytes) (q : List ℕ) where
+  pub refused_with : (a c e f : Option (List ℕ)) (n : ℕ) → IsAnswered (session_answer detail version b q) a c e f n
+      → (stops : List (Option (List ℕ))) × AreStops tries version (world_stated (tables_in b)) stops (lines_in q)
+      × IsAnswered (session_answer_with detail version b stops q) a c e f n
+  unfolding session_answer session_answer_with
+  refused_with a c e f n said = ([], tt, said)
+
+  pub refused_part : (a : Option (List ℕ)) → (stops : List (Option (List ℕ))) × AreStops tries version (world_stated (tables_in b)) stops (lines_in q)
+      × IsFirstPart (append_known a (session_answer_with detail version b stops q).output) a
+  refused_part a = ([], tt, first_none a (session_answer_with detail version b [] q).output)

@@ -1,10 +1,12 @@
 -- A session between its questions: how it goes on, and what is known where it ends.
 use Rattle.std.proofs.Common.{◌≡◌, ◌∙◌, ℕ, ◌+◌, ◌<◌, Bool, true, false, List, [], ◌∷◌, ◌++◌, map, length, eqb, ltb, Option, Some, None, refl, sym, ap, subst, append-nil, append_assoc, arith, length-drop, if◌then◌else◌, IfSome, ◌≢◌}
 use Rattle.std.specs.List.{position_or_len}
+use Rattle.std.specs.Prelude.{Result, Ok}
 use Rattle.std.specs.Io.KnownBytes.{Appends, append_known}
 use Rattle.std.proofs.lemmas.Bool.Decides.{nat_tests}
 use Rattle.std.proofs.lemmas.List.Splits.{slice_split_first, slice_split_none}
 use Rattle.std.proofs.lemmas.List.Sums.{fails_before_first}
+use Rattle.std.proofs.lemmas.Result.{IfOk-at_ok}
 use Rattle.ac_base.proofs.Leaving.{appends_both}
 use Rattle.ac_base.specs.Gathered.{IsFirstPart}
 use Rattle.ac_cloud.specs.World.{World}
@@ -12,10 +14,12 @@ use Rattle.ac_query.specs.declared.version.Version.{Version}
 use Rattle.ac_session.proofs.Leading.Firsts.{after_missed, before_missed, before_size, place_inside}
 use Rattle.ac_session.specs.Lines.{Given, line, too_long, end, behind_line, first_line, given_first, is_newline, most_bytes, most_passed, without_return}
 use Rattle.ac_session.specs.Reading.{given_by}
-use Rattle.ac_session.specs.Standing.{Stands}
+use Rattle.ac_session.specs.Standing.{Answers, Stands}
 use Rattle.ac_session.specs.declared.lines.Next.{Next}
 use Rattle.ac_session.specs.declared.lines.Next.TheVariants as next
-use Rattle.ac_session.specs.Turns.{given_line, lines_in, session_text, text_of, turn_of}
+use Rattle.ac_session.specs.Tries.{AreStops, GivenMayStop, MayStopAt, WithStops, text_with, turn_at}
+use Rattle.ac_session.specs.Turns.{Turn, given_line, lines_in, session_text, text_of, turn_of}
+use Rattle.ac_session.specs.declared.endings.AnswerFault.{AnswerFault}
 
 -- ---- the first line of a text
 
@@ -41,27 +45,62 @@ lines_missed bytes missed =
     ap (map given_line) (slice_split_none is_newline bytes (λ k d inside. fails_before_first is_newline bytes k d (omega arith)))
     ∙ ap (λ text. given_line text ∷ []) (sym (before_missed is_newline bytes missed))
 
+-- behind the last line nothing is written
+none_written : (version : Version) (world : World) (stops : List (Option (List ℕ))) → text_with version world stops [] ≡ []
+none_written version world [] = refl
+none_written version world (stop ∷ stops) = refl
+
+-- nor for an empty one, whose search can't stop
+module _ (tries : Option ℕ) (version : Version) (world : World) where
+  empty_stops : (stops : List (Option (List ℕ))) → AreStops tries version world stops (lines_in []) → AreStops tries version world stops []
+  unfolding lines_in turn_of GivenMayStop
+  empty_stops [] are = tt
+  empty_stops (None ∷ stops) are = (refl, are.1)
+  empty_stops (Some written ∷ stops) are = absurd are.0.0
+
+  empty_with : (stops : List (Option (List ℕ))) → AreStops tries version world stops (lines_in []) → text_with version world stops (lines_in []) ≡ []
+  unfolding lines_in turn_of GivenMayStop
+  empty_with [] are = refl
+  empty_with (None ∷ stops) are = none_written version world stops
+  empty_with (Some written ∷ stops) are = absurd are.0.0
+
 -- what is written for a text is the turn of its first line, and what is written for the lines behind it
-module _ (version : Version) (world after : World) (bytes : List ℕ) (given : Given) where
-  whole_turn : given_line (first_line bytes) ≡ given → after ≡ (turn_of version world given).world
-      → session_text version world (lines_in bytes) ≡ text_of (turn_of version world given) ++ session_text version after (lines_in (behind_line bytes))
-  whole_turn same on = by (ltb (position_or_len is_newline bytes) (length bytes)) refl
+module _ (tries : Option ℕ) (version : Version) (world after : World) (bytes : List ℕ) (given : Given) (stop : Option (List ℕ)) (may : MayStopAt tries version world given stop) where
+  abbrev behind : List Given
+  behind = lines_in (behind_line bytes)
+
+  -- it may have stopped, and so may those behind it
+  pub record IsTurn (later : List (Option (List ℕ))) (lines : List Given) : Type 0 where
+    pub stops : AreStops tries version world (stop ∷ later) lines
+    pub text : text_with version world (stop ∷ later) lines ≡ text_of (turn_at version world stop given) ++ text_with version after later behind
+
+  whole_turn : given_line (first_line bytes) ≡ given → after ≡ (turn_at version world stop given).world
+      → (later : List (Option (List ℕ))) → AreStops tries version after later behind → IsTurn later (lines_in bytes)
+  whole_turn same on later are = by (ltb (position_or_len is_newline bytes) (length bytes)) refl
     where
-      by : (b : Bool) → ltb (position_or_len is_newline bytes) (length bytes) ≡ b
-          → session_text version world (lines_in bytes) ≡ text_of (turn_of version world given) ++ session_text version after (lines_in (behind_line bytes))
+      there : AreStops tries version (turn_at version world stop given).world later behind
+      there = subst (λ w. AreStops tries version w later behind) on are
+
+      by : (b : Bool) → ltb (position_or_len is_newline bytes) (length bytes) ≡ b → IsTurn later (lines_in bytes)
       by true e =
-          ap (session_text version world) (lines_found bytes (grind (arith, nat_tests)))
-          ∙ ap (λ g. text_of (turn_of version world g) ++ session_text version (turn_of version world g).world (lines_in (behind_line bytes))) same
-          ∙ ap (λ w. text_of (turn_of version world given) ++ session_text version w (lines_in (behind_line bytes))) (sym on)
+          subst (IsTurn later) (sym (lines_found bytes (grind (arith, nat_tests)) ∙ ap (λ g. g ∷ behind) same))
+          (record { stops = (may, there); text = ap (λ w. text_of (turn_at version world stop given) ++ text_with version w later behind) (sym on) })
       by false e =
           let inside = place_inside is_newline bytes in
           let missed : position_or_len is_newline bytes ≡ length bytes = grind (arith, nat_tests) in
-          ap (session_text version world) (lines_missed bytes missed)
-          ∙ ap (λ g. text_of (turn_of version world g) ++ []) same
-          ∙ ap (λ l. text_of (turn_of version world given) ++ l) (sym (ap (λ b. session_text version after (lines_in b)) (after_missed is_newline bytes missed) ∙ empty_text version after))
+          let none : behind_line bytes ≡ [] = after_missed is_newline bytes missed in
+          let last = subst (λ b. AreStops tries version after later (lines_in b)) none are in
+          subst (IsTurn later) (sym (lines_missed bytes missed ∙ ap (λ g. g ∷ []) same))
+          (record {
+            stops = (may, subst (λ w. AreStops tries version w later []) on (empty_stops tries version after later last));
+            text =
+                ap (λ l. text_of (turn_at version world stop given) ++ l)
+                (none_written version (turn_at version world stop given).world later
+                ∙ sym (ap (λ b. text_with version after later (lines_in b)) none ∙ empty_with tries version after later last));
+          })
 
-  pub one_turn : given ≡ given_first bytes → 0 < length bytes → after ≡ (turn_of version world given).world
-      → session_text version world (lines_in bytes) ≡ text_of (turn_of version world given) ++ session_text version after (lines_in (behind_line bytes))
+  pub one_turn : given ≡ given_first bytes → 0 < length bytes → after ≡ (turn_at version world stop given).world
+      → (later : List (Option (List ℕ))) → AreStops tries version after later behind → IsTurn later (lines_in bytes)
   one_turn first some on = whole_turn (sym (first ∙ given_is bytes some)) on
 
 -- the end is given of no bytes alone
@@ -113,31 +152,67 @@ first_of_second (Some u) (Some v) (Some w) x y h k = (k.0, sym (append_assoc u x
 
 -- ---- from turn to turn
 
-module _ (version : Version) (first : World) (questions : List ℕ) (a : Option (List ℕ)) (world : World) (remains b : Option (List ℕ)) (turns : ℕ)
-    (stood : Stands version first questions a world remains b turns) where
+-- what may be written fulfils this too
+pub with_weaker : {P Q : List ℕ → Type 0} (tries : Option ℕ) (version : Version) (world : World) (questions : List ℕ)
+    → ((text : List ℕ) → P text → Q text) → WithStops tries version world questions P → WithStops tries version world questions Q
+with_weaker tries version world questions weaker found = (found.0, found.1, weaker _ found.2)
+
+module _ (tries : Option ℕ) (version : Version) (first : World) (questions : List ℕ) (a : Option (List ℕ)) (world : World) (remains b : Option (List ℕ)) (turns : ℕ)
+    (stood : Stands tries version first questions a world remains b turns) where
   -- what is left has no more bytes than all
   pub still_few : length questions < most_passed → length stood.rest < most_passed
   still_few few = omega (arith, stood.fewer)
 
-  pub stands_on : (next : World) (left c : Option (List ℕ)) → Stands version world stood.rest b next left c 1 → Stands version first questions a next left c (turns + 1)
+  pub stands_on : (next : World) (left c : Option (List ℕ)) → Stands tries version world stood.rest b next left c 1
+      → Stands tries version first questions a next left c (turns + 1)
   stands_on next left c more = record {
     rest = more.rest;
     left = more.left;
+    stops = stood.stops ++ more.stops;
     written = stood.written ++ more.written;
     taken = appends_both a b c stood.written more.written stood.taken more.taken;
-    text = stood.text ∙ ap (λ l. stood.written ++ l) more.text ∙ sym (append_assoc stood.written more.written (session_text version next (lines_in more.rest)));
+    may = λ later are.
+        subst (λ stops. AreStops tries version first stops (lines_in questions)) (sym (append_assoc stood.stops more.stops later))
+        (stood.may (more.stops ++ later) (more.may later are));
+    text = λ later are.
+        ap (λ stops. text_with version first stops (lines_in questions)) (append_assoc stood.stops more.stops later)
+        ∙ stood.text (more.stops ++ later) (more.may later are)
+        ∙ ap (λ l. stood.written ++ l) (more.text later are)
+        ∙ sym (append_assoc stood.written more.written (text_with version next later (lines_in more.rest)));
     fewer = omega (arith, stood.fewer, more.fewer);
   }
 
   -- the others are answered as well
-  pub stands_end : (c : Option (List ℕ)) → Appends b c (session_text version world (lines_in stood.rest)) → Appends a c (session_text version first (lines_in questions))
-  stands_end c on = subst (Appends a c) (sym stood.text) (appends_both a b c stood.written (session_text version world (lines_in stood.rest)) stood.taken on)
+  pub stands_end : (c : Option (List ℕ)) → Appends b c (session_text version world (lines_in stood.rest)) → WithStops tries version first questions (Appends a c)
+  stands_end c on = (
+    stood.stops ++ [],
+    stood.may [] tt,
+    subst (Appends a c) (sym (stood.text [] tt)) (appends_both a b c stood.written (session_text version world (lines_in stood.rest)) stood.taken on),
+  )
 
   -- or a part of them
-  pub stands_part : (c : Option (List ℕ)) → IsFirstPart (append_known b (session_text version world (lines_in stood.rest))) c
-      → IsFirstPart (append_known a (session_text version first (lines_in questions))) c
-  stands_part c part =
-      subst (λ text. IsFirstPart (append_known a text) c) (sym stood.text) (first_of_second a b c stood.written (session_text version world (lines_in stood.rest)) stood.taken part)
+  pub stands_part : (c : Option (List ℕ)) → WithStops tries version world stood.rest (λ text. IsFirstPart (append_known b text) c)
+      → WithStops tries version first questions (λ text. IsFirstPart (append_known a text) c)
+  stands_part c part = (
+    stood.stops ++ part.0,
+    stood.may part.0 part.1,
+    subst (λ text. IsFirstPart (append_known a text) c) (sym (stood.text part.0 part.1))
+        (first_of_second a b c stood.written (text_with version world part.0 (lines_in stood.rest)) stood.taken part.2),
+  )
+
+-- no turn is taken yet
+pub stands_first : (tries : Option ℕ) (version : Version) (first : World) (questions : List ℕ) (a remains : Option (List ℕ)) → remains ≡ Some questions
+    → Stands tries version first questions a first remains a 0
+stands_first tries version first questions a remains known = record {
+  rest = questions;
+  left = known;
+  stops = [];
+  written = [];
+  taken = none_added a [] refl;
+  may = λ later are. are;
+  text = λ later are. refl;
+  fewer = omega arith;
+}
 
 -- what a reader gave, where it is neither the end nor a failure
 pub given_there : (n : Next) → (n ≡ next.End → ⊥) → (n ≡ next.Failed → ⊥) → (given : Given) × (given_by n ≡ Some given) × (given ≡ end → ⊥)
@@ -151,33 +226,48 @@ pub end_given : (version : Version) (world : World) (a old : Option (List ℕ)) 
     → Appends a a (session_text version world (lines_in q))
 end_given version world a old q e h = none_added a _ (nothing_left version world q (at_end q (subst (λ (known : Option (List ℕ)). IfSome known (λ bytes. end ≡ given_first bytes)) e h)))
 
+-- nothing of it is written
+pub with_none : (tries : Option ℕ) (version : Version) (world : World) (questions : List ℕ) (a : Option (List ℕ))
+    → WithStops tries version world questions (λ text. IsFirstPart (append_known a text) a)
+with_none tries version world questions a = ([], tt, first_none a (session_text version world (lines_in questions)))
+
 -- a line was given of these questions
-module _ (version : Version) (world : World) (q : List ℕ) (a c old : Option (List ℕ)) (told : Option Given) (given : Given) (is : told ≡ Some given) (isnt : given ≡ end → ⊥) (known : old ≡ Some q)
-    (gives : IfSome old (λ bytes. IfSome told (λ given. given ≡ given_first bytes))) where
+module _ (tries : Option ℕ) (version : Version) (world : World) (q : List ℕ) (a c old : Option (List ℕ)) (told : Option Given) (given : Given) (is : told ≡ Some given) (isnt : given ≡ end → ⊥)
+    (known : old ≡ Some q) (gives : IfSome old (λ bytes. IfSome told (λ given. given ≡ given_first bytes))) {T : Type 0} (result : Result T AnswerFault) (after : World)
+    (answers : Answers tries version world given result after a c) where
   is_first : given ≡ given_first q
   is_first =
       subst (λ (g : Option Given). IfSome g (λ given. given ≡ given_first q)) is
       (subst (λ (b : Option (List ℕ)). IfSome b (λ bytes. IfSome told (λ given. given ≡ given_first bytes))) known gives)
 
+  abbrev turn : Turn
+  turn = turn_at version world answers.stop given
+
   -- a part of its answer is a part of all answers
-  pub line_part : IsFirstPart (append_known a (text_of (turn_of version world given))) c → IsFirstPart (append_known a (session_text version world (lines_in q))) c
-  line_part h =
-      subst (λ (text : List ℕ). IsFirstPart (append_known a text) c)
-      (sym (one_turn version world (turn_of version world given).world q given is_first (some_bytes q given is_first isnt) refl))
-      (first_of_first a c (text_of (turn_of version world given)) (session_text version (turn_of version world given).world (lines_in (behind_line q))) h)
+  pub line_part : WithStops tries version world q (λ text. IsFirstPart (append_known a text) c)
+  line_part =
+      let whole = one_turn tries version world turn.world q given answers.stop answers.may is_first (some_bytes q given is_first isnt) refl [] tt in (
+        answers.stop ∷ [],
+        whole.stops,
+        subst (λ (text : List ℕ). IsFirstPart (append_known a text) c) (sym whole.text)
+            (first_of_first a c (text_of turn) (session_text version turn.world (lines_in (behind_line q))) answers.part),
+      )
 
   -- and then what is behind it is left
-  pub line_stands : (after : World) (remains : Option (List ℕ)) → (told ≢ None → IfSome old (λ bytes. length (first_line bytes) < most_passed → remains ≡ Some (behind_line bytes)))
-      → length q < most_passed → Appends a c (text_of (turn_of version world given)) → after ≡ (turn_of version world given).world → Stands version world q a after remains c 1
-  line_stands after remains behind few taken on =
+  pub line_stands : {x : T} → result ≡ Ok x → (remains : Option (List ℕ)) → (told ≢ None → IfSome old (λ bytes. length (first_line bytes) < most_passed → remains ≡ Some (behind_line bytes)))
+      → length q < most_passed → Stands tries version world q a after remains c 1
+  line_stands fine remains behind few =
       let some = some_bytes q given is_first isnt in
       let short : length (first_line q) < most_passed = omega (arith, before_size is_newline q, place_inside is_newline q) in
       let left = subst (λ (b : Option (List ℕ)). IfSome b (λ bytes. length (first_line bytes) < most_passed → remains ≡ Some (behind_line bytes))) known (behind (λ none. let both : Some given ≡ None = sym is ∙ none in cc)) in
+      let whole = one_turn tries version world after q given answers.stop answers.may is_first some (IfOk-at_ok _ fine answers.world) in
       record {
         rest = behind_line q;
         left = left short;
-        written = text_of (turn_of version world given);
-        taken = taken;
-        text = one_turn version world after q given is_first some on;
+        stops = answers.stop ∷ [];
+        written = text_of turn;
+        taken = IfOk-at_ok _ fine answers.ok;
+        may = λ later are. (whole later are).stops;
+        text = λ later are. (whole later are).text;
         fewer = omega (arith, length-drop (position_or_len is_newline q + 1) q);
       }

@@ -2,7 +2,7 @@
 use Rattle.std.proofs.Common.{◌≡◌, ◌∙◌, ℕ, ◌<◌, ◌==◌, length, if◌then◌else◌, Bool, true, false, List, [], ◌∷◌, Option, Some, None, refl, sym, ap, ap₂, subst}
 use Rattle.std.specs.List.{All}
 use Rattle.std.specs.Option.{IfSome, option_map, unwrap_or}
-use Rattle.std.specs.Prelude.{Result}
+use Rattle.std.specs.Prelude.{Result, Err}
 use Rattle.std.proofs.lemmas.List.Elements.{All-from_recursion}
 use Rattle.ac_cloud.specs.World.{Provider, World}
 use Rattle.ac_fill.specs.Filled.{after}
@@ -14,6 +14,7 @@ use Rattle.ac_query.specs.Pairs.Values.{ids_value}
 use Rattle.ac_query.specs.Tokens.{token_fault}
 use Rattle.ac_query.specs.declared.version.Version.{Version}
 use Rattle.ac_report.specs.declared.fault.PageFault.{PageFault}
+use Rattle.ac_report.specs.declared.fault.PageFault.TheVariants as page_fault
 use Rattle.ac_rules.proofs.EachSlot.ClaimLaws.{claims_narrow}
 use Rattle.ac_rules.specs.Claims.{claimed, is_in_use, released}
 use Rattle.ac_rules.specs.Judge.{is_candidate, judge}
@@ -26,15 +27,20 @@ use Rattle.ac_run.proofs.Attempted.{asks_query}
 use Rattle.ac_run.specs.Answer.{Outcome, Says, answer_in, past_query, refused}
 use Rattle.ac_run.specs.Outputs.{fill_status}
 use Rattle.ac_run.specs.Refusals.{line_of_asked, status_of_asked}
+use Rattle.ac_run.specs.Run.{Delivers}
+use Rattle.ac_run.specs.Stops.{AnswerMayStop}
 use Rattle.ac_run.specs.Tasks.{Task}
-use Rattle.ac_run.specs.Wanted.{ExplainsQuery, ExplainsToken, ExplainsWanted}
+use Rattle.ac_run.specs.Wanted.{ExplainsQuery, ExplainsToken, ExplainsWanted, answer_to}
+use Rattle.ac_run.specs.declared.wanted.Wanted.{Wanted}
+use Rattle.ac_run.specs.declared.wanted.Wanted.TheVariants as wanted
 use Rattle.ac_run.specs.declared.refusal.AskRefusal.{AskRefusal}
 use Rattle.ac_run.specs.declared.refusal.AskRefusal.TheVariants as ask
-use Rattle.ac_session.proofs.Written.{ok_any}
+use Rattle.ac_session.proofs.Written.{turn_whole}
 use Rattle.ac_session.specs.Laws.{AskingLeavesAll, ClaimTurnsNarrow}
 use Rattle.ac_session.specs.Questions.{claim, fill, job, nothing, release, unknown, usages, wrong_number}
 use Rattle.ac_session.specs.Standing.{Gives, IsRefusal, TakesTurn}
 use Rattle.ac_session.specs.Turns.{claim_line, claim_of, claim_said, claim_turn, places_named, placed_by, release_line, release_of, release_said, release_turn, settles, world_after}
+use Rattle.ac_session.specs.declared.endings.AnswerFault.{AnswerFault}
 use Rattle.ac_session.specs.declared.endings.Ending.{Ending}
 
 -- ---- refusals
@@ -43,6 +49,23 @@ use Rattle.ac_session.specs.declared.endings.Ending.{Ending}
 pub past_read : (say : Says) (version : Version) (query token : List ℕ) (asked : Asked) → query_fault version query ≡ None → asked ≡ asked_by version (pairs_of query)
     → token_fault asked token ≡ None → past_query say (Some token) version query ≡ say asked (ids_value token)
 past_read say version query token asked q e t = rw (q, ← e, t) refl
+
+-- a page whose search stopped
+pub delivers_stopped : {May : Type 0} {o : Outcome} {r : Result ℕ PageFault} {old new : Option (List ℕ)} {before after : ℕ}
+    → Delivers o May r old new before after → Delivers o (r ≡ Err page_fault.TooManyTries) r old new before after
+delivers_stopped done = record { few = done.few; ok = done.ok; part = done.part; failed = done.failed; stopped = λ e. e; failures = done.failures }
+
+-- nothing is refused that is searched for
+pub not_refused : (wanted : Wanted) (tries : Option ℕ) (world : World) → AnswerMayStop wanted tries world.providers → (answer_to wanted world).line ≡ []
+not_refused wanted.Counts tries world may = absurd may
+not_refused (wanted.Body query token traits) tries world may = refl
+not_refused (wanted.Lines query token) tries world may = refl
+not_refused (wanted.Rows query token traits) tries world may = refl
+not_refused (wanted.Fill query sum) tries world may = refl
+not_refused (wanted.Verdict query token detail) tries world may = absurd may
+not_refused (wanted.Explanation question) tries world may = refl
+not_refused (wanted.Hosts query) tries world may = refl
+not_refused (wanted.Why query host) tries world may = refl
 
 pub query_refused : (version : Version) (query : List ℕ) (refusal : AskRefusal) → ExplainsQuery (query_fault version query) refusal
     → (say : Says) (token : Option (List ℕ)) → IsRefusal refusal (past_query say token version query)
@@ -83,21 +106,23 @@ same_world : (a b : World) → a.providers ≡ b.providers → a.sizes ≡ b.siz
 same_world a b p s = ap₂ (λ providers sizes. record { providers = providers; sizes = sizes }) p s
 
 -- what became of a list that was judged, or given back
-module _ (old new : World) (sizes : new.sizes ≡ old.sizes) (asked : Asked) (list : List ℕ) (r : Result Ending PageFault) (a b : Option (List ℕ)) (f g : ℕ) where
-  pub claimed_so : (v : Verdict) → v ≡ judge old.providers asked list → Gives (Some (claim_said v)) r a b f g → (v ≡ verdict.Candidate → new.providers ≡ claimed old.providers (assigned asked list))
-      → ((v ≡ verdict.Candidate → ⊥) → new ≡ old) → TakesTurn (settles old (claim_of old.providers asked (Some list)) (claimed old.providers (assigned asked list))) r new a b f g
+module _ (old new : World) (sizes : new.sizes ≡ old.sizes) (asked : Asked) (list : List ℕ) (r : Result Ending AnswerFault) (a b : Option (List ℕ)) (f g : ℕ) where
+  pub claimed_so : (v : Verdict) → v ≡ judge old.providers asked list → Gives ⊥ (Some (claim_said v)) r a b f g → (v ≡ verdict.Candidate → new.providers ≡ claimed old.providers (assigned asked list))
+      → ((v ≡ verdict.Candidate → ⊥) → new ≡ old) → TakesTurn ⊥ old (settles old (claim_of old.providers asked (Some list)) (claimed old.providers (assigned asked list))) r new a b f g
   claimed_so v is answer made otherwise =
-      subst (λ v. TakesTurn (settles old (claim_said v) (claimed old.providers (assigned asked list))) r new a b f g) is (record { answer = answer; world = ok_any r _ (by v made otherwise) })
+      subst (λ v. TakesTurn ⊥ old (settles old (claim_said v) (claimed old.providers (assigned asked list))) r new a b f g) is
+      (turn_whole old new (settles old (claim_said v) (claimed old.providers (assigned asked list))) r a b f g answer (by v made otherwise))
     where
       by : (v : Verdict) → (v ≡ verdict.Candidate → new.providers ≡ claimed old.providers (assigned asked list)) → ((v ≡ verdict.Candidate → ⊥) → new ≡ old)
           → new ≡ world_after old (claim_said v).status (claimed old.providers (assigned asked list))
       by verdict.Candidate made otherwise = same_world new (record old { providers = claimed old.providers (assigned asked list) }) (made refl) sizes
       by (verdict.Broken rule) made otherwise = otherwise (λ e. cc)
 
-  pub released_so : (used : Bool) → used ≡ is_in_use old.providers (assigned asked list) → Gives (Some (release_said used)) r a b f g → (used ≡ true → new.providers ≡ released old.providers (assigned asked list))
-      → (used ≡ false → new ≡ old) → TakesTurn (settles old (release_of old.providers asked (Some list)) (released old.providers (assigned asked list))) r new a b f g
+  pub released_so : (used : Bool) → used ≡ is_in_use old.providers (assigned asked list) → Gives ⊥ (Some (release_said used)) r a b f g → (used ≡ true → new.providers ≡ released old.providers (assigned asked list))
+      → (used ≡ false → new ≡ old) → TakesTurn ⊥ old (settles old (release_of old.providers asked (Some list)) (released old.providers (assigned asked list))) r new a b f g
   released_so used is answer made otherwise =
-      subst (λ used. TakesTurn (settles old (release_said used) (released old.providers (assigned asked list))) r new a b f g) is (record { answer = answer; world = ok_any r _ (by used made otherwise) })
+      subst (λ used. TakesTurn ⊥ old (settles old (release_said used) (released old.providers (assigned asked list))) r new a b f g) is
+      (turn_whole old new (settles old (release_said used) (released old.providers (assigned asked list))) r a b f g answer (by used made otherwise))
     where
       by : (used : Bool) → (used ≡ true → new.providers ≡ released old.providers (assigned asked list)) → (used ≡ false → new ≡ old)
           → new ≡ world_after old (release_said used).status (released old.providers (assigned asked list))

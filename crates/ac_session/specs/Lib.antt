@@ -6,6 +6,7 @@ pub mod Frames
 pub mod Escapes
 pub mod UsageRows
 pub mod Turns
+pub mod Tries
 pub mod Sessions
 pub mod Standing
 pub mod Laws

@@ -1,17 +1,19 @@
 //! How answers end, and answers of which no more is to be said than that.
-ghost use Rattle.std.specs.Prelude.{◌≤◌, ◌++◌, ℕ, List, Option, OnErr, OnOk, Some};
+ghost use Rattle.std.specs.Prelude.{◌≡◌, ◌≤◌, ◌++◌, ℕ, List, Option, Err, IfOk, OnErr, OnOk, Some};
 ghost use Rattle.std.specs.Io.KnownBytes.{Appends, append_known};
 ghost use Rattle.ac_base.specs.Writing.{Pushes};
-ghost use Rattle.ac_base.specs.Devices.{Rises};
+ghost use Rattle.ac_base.specs.Devices.{Rises, TakesPart};
 ghost use Rattle.ac_base.specs.Gathered.{IsFirstPart};
 ghost use Rattle.ac_cloud.specs.World.{Provider, World};
+ghost use Rattle.ac_report.specs.declared.fault.PageFault.TheVariants as PageFault;
 ghost use Rattle.ac_run.specs.Answer.{Outcome, written};
 ghost use Rattle.ac_run.specs.Refusals.{line_of_asked, status_of_asked};
 ghost use Rattle.ac_run.specs.Run.{Delivers};
 ghost use Rattle.ac_session.specs.Escapes.{begun};
 ghost use Rattle.ac_session.specs.Frames.{lines_written};
 ghost use Rattle.ac_session.specs.Standing.{Gives, IsRefusal, TakesTurn, end_told, mark_of};
-ghost use Rattle.ac_session.specs.Turns.{settles};
+ghost use Rattle.ac_session.specs.Turns.{output_of, settles};
+ghost use Rattle.ac_session.specs.declared.endings.Ending.TheVariants as Ending;
 
 use crate::escaping::Escaping;
 use crate::line_faults::LineFault;
@@ -30,6 +32,28 @@ pub(crate) enum Ending {
     Faulted(LineFault),
     /// There is no answer: the line is empty.
     Unasked,
+    /// Its search made as many tries as it may.
+    Stopped,
+}
+
+/// Why an answer isn't given: the session stops with it.
+#[derive(Clone, Copy, Debug, PartialEq, Eq)]
+pub(crate) enum AnswerFault {
+    /// The output failed.
+    WriteFailed,
+    /// A growth was refused.
+    NoMemory,
+}
+
+impl From<WriteFailed> for AnswerFault {
+    ghost use Rattle.std.specs.Prelude.{◌≡◌};
+    ghost use Rattle.ac_session.specs.declared.endings.AnswerFault.TheVariants as fault;
+
+    ghost from_gives = { λ _ e. e ≡ fault.WriteFailed };
+
+    fn from(_error: WriteFailed) -> AnswerFault {
+        AnswerFault::WriteFailed
+    }
 }
 
 // What stands before the line of a refusal.
@@ -67,6 +91,7 @@ fn push_ending<W: Sink>(out: &mut W, ending: &Ending) -> Result<(), WriteFailed>
         Ending::Refused(refusal) => push_refused(out, refusal),
         Ending::Faulted(fault) => push_pieces(out, &[b"= 2 ", fault.line().as_bytes()]),
         Ending::Unasked => Ok(()),
+        Ending::Stopped => push_all(out, b"= 8 search: TooManyTries\n"),
     }
 }
 
@@ -96,33 +121,53 @@ pub(crate) fn end_answer<W: Sink>(
 }
 
 /// A text that is at hand, with its status.
-pub(crate) fn write_said<W: Sink>(out: &mut W, text: &[u8], status: u8) -> Result<Ending, PageFault>
-    ensures { Gives (Some (written text.now status)) result
+pub(crate) fn write_said<W: Sink>(
+    out: &mut W,
+    text: &[u8],
+    status: u8,
+) -> Result<Ending, AnswerFault>
+    ensures { Gives ⊥ (Some (written text.now status)) result
         (W.taken out.old) (W.taken out.new) (W.failures out.old) (W.failures out.new) }
 {
     push_all(out, text)?;
     Ok(Ending::Given(status))
 }
 
+/// How an answer ends that wasn't written whole: where its search stopped, the session goes on.
+pub(crate) fn broken_off(fault: PageFault) -> Result<Ending, AnswerFault>
+    ensures gives { (answer : Option Outcome) (old new : Option (List ℕ)) (before after : ℕ)
+        → TakesPart old new (output_of answer)
+        → (fault ≡ PageFault.WriteFailed → Rises before after) → before ≤ after
+        → Gives (fault ≡ PageFault.TooManyTries) answer result old new before after }
+    ensures stopped { IfOk result (λ end. end ≡ Ending.Stopped) }
+{
+    match fault {
+        PageFault::WriteFailed => Err(AnswerFault::WriteFailed),
+        PageFault::NoMemory => Err(AnswerFault::NoMemory),
+        PageFault::TooManyTries => Ok(Ending::Stopped),
+    }
+}
+
 /// The ending of an answer that was written, with its status.
-pub(crate) fn given(written: Result<u8, PageFault>) -> Result<Ending, PageFault>
+pub(crate) fn given(written: Result<u8, PageFault>) -> Result<Ending, AnswerFault>
     ensures { (o : Outcome) (old new : Option (List ℕ)) (before after : ℕ)
-        → Delivers o written old new before after → Gives (Some o) result old new before after }
+        → Delivers o (written ≡ Err PageFault.TooManyTries) written old new before after
+        → Gives (written ≡ Err PageFault.TooManyTries) (Some o) result old new before after }
 {
     match written {
         Ok(status) => Ok(Ending::Given(status)),
-        Err(fault) => Err(fault),
+        Err(fault) => broken_off(fault),
     }
 }
 
 /// A refusal in place of an answer; want of memory ends the session instead.
-pub(crate) fn refused(refusal: AskRefusal) -> Result<Ending, PageFault>
+pub(crate) fn refused(refusal: AskRefusal) -> Result<Ending, AnswerFault>
     ensures { (o : Outcome) → IsRefusal refusal o → (world : World) (all : List Provider)
         (old : Option (List ℕ)) (count : ℕ)
-        → TakesTurn (settles world o all) result world old old count count }
+        → TakesTurn ⊥ world (settles world o all) result world old old count count }
 {
     match refusal {
-        AskRefusal::NoMemory => Err(PageFault::NoMemory),
+        AskRefusal::NoMemory => Err(AnswerFault::NoMemory),
         _ => Ok(Ending::Refused(refusal)),
     }
 }

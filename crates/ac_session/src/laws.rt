@@ -1,5 +1,5 @@
 //! Laws of the definitions. Each function does nothing: its contract is the law.
-ghost use Rattle.ac_session.specs.Laws.Apart.{AnswersApart, BlanksComeOff, SessionsApart};
+ghost use Rattle.ac_session.specs.Laws.Apart.{AnswersApart, BlanksComeOff, SessionsApart, StoppedApart};
 ghost use Rattle.ac_session.specs.Laws.{AskingLeavesAll, ClaimTurnsNarrow, ReadsBack, ReleaseTurnUndoes, SessionsGoOn};
 
 /// What is written as a line of words is read as these words, and what is written behind it is left.
@@ -38,6 +38,12 @@ pub fn blanks_come_off()
 #[tactic(auto, using(crate::proofs::Apart::sessions_apart))]
 pub fn sessions_apart()
     ensures { SessionsApart }
+{}
+
+/// So does who reads one in which searches stopped.
+#[tactic(auto, using(crate::proofs::Apart::stopped_apart))]
+pub fn stopped_apart()
+    ensures { StoppedApart }
 {}
 
 /// The table of usages that is written at the end of a session is accepted beside the other tables, and they state the providers as the session left them.

@@ -95,6 +95,7 @@ fn job<'a>(command: Command<'a>, query: &'a str, version: Version) -> Question<'
         command,
         query,
         version,
+        tries: None,
         detail: None,
     })
 }

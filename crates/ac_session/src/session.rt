@@ -1,33 +1,36 @@
-//! A session: questions from a feed, each answered whole before the next is read.
-ghost use Rattle.std.specs.Prelude.{◌≡◌, ◌≢◌, ◌≤◌, ◌<◌, ◌++◌, ◌⊎◌, ℕ, List, ◌∷◌, [], Contains, Err, Ok, OnErr, OnOk, Option, Some, length};
+//! A session: questions from a feed, each answered before the next is read.
+ghost use Rattle.std.specs.Prelude.{◌≡◌, ◌≢◌, ◌≤◌, ◌<◌, ◌++◌, ◌⊎◌, ℕ, List, ◌∷◌, [], Contains, Err, Ok, OnErr, OnOk, Option, Some, None, length};
 ghost use Rattle.std.specs.Io.KnownBytes.{Appends, append_known};
 ghost use Rattle.ac_base.specs.Writing.{TakesLine};
 ghost use Rattle.ac_base.specs.Devices.{Rises};
 ghost use Rattle.ac_base.specs.Gathered.{IsFirstPart};
 ghost use Rattle.ac_cloud.specs.Cloud.CloudWorld.{world_of};
-ghost use Rattle.ac_report.specs.declared.fault.PageFault.TheVariants as PageFault;
+ghost use Rattle.ac_run.specs.Answer.{written};
 ghost use Rattle.ac_run.specs.Feeds.{Bytes, FeedRose, TellBytes};
 ghost use Rattle.ac_run.specs.Lines.{memory_line, output_line};
 ghost use Rattle.ac_run.specs.Run.{FailsOr, IsAnswered, IsRefused, IsUnread};
 ghost use Rattle.ac_run.specs.Tasks.{detail_shown};
+ghost use Rattle.ac_run.specs.Wanted.Given.{tables_in};
 ghost use Rattle.ac_session.specs.Escapes.{begun};
 ghost use Rattle.ac_session.specs.Frames.{lines_written};
 ghost use Rattle.ac_session.specs.Lines.{Given, most_passed};
 ghost use Rattle.ac_session.specs.Reading.{feed_in, given_by, left};
-ghost use Rattle.ac_session.specs.Sessions.{AreUnread, held, session_answer};
-ghost use Rattle.ac_session.specs.Standing.{Stands, end_told, stop_line, stop_status};
-ghost use Rattle.ac_session.specs.Turns.{lines_in, session_text, text_of, turn_of};
+ghost use Rattle.ac_session.specs.Sessions.{AreUnread, session_answer, session_answer_with};
+ghost use Rattle.ac_session.specs.Standing.{Answers, Stands, end_told, stop_line, stop_status};
+ghost use Rattle.ac_session.specs.Tries.{AreStops, WithStops};
+ghost use Rattle.ac_session.specs.Turns.{lines_in, session_text};
+ghost use Rattle.ac_session.specs.declared.endings.AnswerFault.TheVariants as AnswerFault;
 ghost use Rattle.ac_session.specs.declared.session.Step.TheVariants as Step;
 ghost use Rattle.ac_session.specs.declared.session.Stop.TheVariants as Stop;
+ghost use Rattle.ac_tables.specs.Tables.{world_stated};
 ghost use Rattle.ac_tables.specs.declared.fault.Table.{Table};
 
-use crate::endings::{Ending, end_answer};
+use crate::endings::{AnswerFault, Ending, end_answer};
 use crate::escaping::Escaping;
 use crate::lines::{Lines, Next};
 use crate::turns::answer_next;
 use ac_base::{Feed, Gathering, Sink, push_all};
 use ac_query::Version;
-use ac_report::PageFault;
 use ac_run::{Inputs, Paths, Refusal, Refused, read_inputs, tell};
 use ac_tables::Cloud;
 use std::alloc::Global;
@@ -60,7 +63,7 @@ enum Step {
 fn end_gathered<W: Sink + Drop>(
     frame: Escaping<Gathering<W>>,
     ending: &Ending,
-) -> (Result<(), PageFault>, W)
+) -> (Result<(), AnswerFault>, W)
     ensures ok { OnOk result.0 ((old : Option (List ℕ)) (text : List ℕ)
         → Appends (begun old) (⟦<Escaping<Gathering<W>> as Sink>⟧.taken frame) text
         → Appends old (W.taken result.1) (lines_written text ++ end_told ending.now)) }
@@ -76,38 +79,33 @@ fn end_gathered<W: Sink + Drop>(
     match end_answer(frame, ending) {
         (Ok(()), gathering) => match gathering.finish() {
             (Ok(()), out) => (Ok(()), out),
-            (Err(_), out) => (Err(PageFault::WriteFailed), out),
+            (Err(_), out) => (Err(AnswerFault::WriteFailed), out),
         },
-        (Err(_), gathering) => (Err(PageFault::WriteFailed), gathering.into_inner()),
+        (Err(_), gathering) => (Err(AnswerFault::WriteFailed), gathering.into_inner()),
     }
 }
 
-// Answers what a reader of lines gave, and hands the answer on whole.
+// Answers what a reader of lines gave, and hands the answer on.
 fn hand_on<W: Sink + Drop>(
     alloc: Global,
     cloud: &mut Cloud,
     version: Version,
+    tries: Option<u64>,
     next: Next<'_>,
     out: W,
-) -> (Result<(), PageFault>, W)
-    ensures ok { (given : Given) → given_by next.entry ≡ Some given
-        → OnOk result.0 (Appends (W.taken out)
-        (W.taken result.1) (text_of (turn_of version (world_of cloud.old) given))) }
-    ensures world { (given : Given) → given_by next.entry ≡ Some given
-        → OnOk result.0 (world_of cloud.new
-        ≡ (turn_of version (world_of cloud.old) given).world) }
-    ensures part { (given : Given) → given_by next.entry ≡ Some given
-        → IsFirstPart (append_known (W.taken out)
-        (text_of (turn_of version (world_of cloud.old) given))) (W.taken result.1) }
-    ensures failed { result.0 ≡ Err PageFault.WriteFailed
+) -> (Result<(), AnswerFault>, W)
+    ensures answers { (given : Given) → given_by next.entry ≡ Some given
+        → Answers tries version (world_of cloud.old) given result.0 (world_of cloud.new)
+        (W.taken out) (W.taken result.1) }
+    ensures failed { result.0 ≡ Err AnswerFault.WriteFailed
         → Rises (W.failures out) (W.failures result.1) }
     ensures failures { W.failures out ≤ W.failures result.1 }
 {
     let Ok(room) = vec![in alloc; 0u8; ROOM] else {
-        return (Err(PageFault::NoMemory), out);
+        return (Err(AnswerFault::NoMemory), out);
     };
     let mut frame = Escaping::new(Gathering::new(out, room));
-    match answer_next(alloc, cloud, version, next, &mut frame) {
+    match answer_next(alloc, cloud, version, tries, next, &mut frame) {
         Ok(ending) => end_gathered(frame, &ending),
         Err(fault) => (Err(fault), frame.into_inner().into_inner()),
     }
@@ -118,19 +116,20 @@ fn answer_line<Q: Feed, W: Sink + Drop>(
     alloc: Global,
     cloud: &mut Cloud,
     version: Version,
+    tries: Option<u64>,
     lines: &mut Lines<Q>,
     out: W,
 ) -> (Step, W)
     ensures stands { result.0 ≡ Step.Answered → (q : List ℕ)
         → left Q.remaining lines.old ≡ Some q → length q < most_passed
-        → Stands version (world_of cloud.old) q (W.taken out) (world_of cloud.new)
+        → Stands tries version (world_of cloud.old) q (W.taken out) (world_of cloud.new)
         (left Q.remaining lines.new) (W.taken result.1) 1 }
     ensures over { result.0 ≡ Step.AtEnd → (q : List ℕ) → left Q.remaining lines.old ≡ Some q
         → Appends (W.taken out) (W.taken result.1)
         (session_text version (world_of cloud.old) (lines_in q)) }
     ensures part { (q : List ℕ) → left Q.remaining lines.old ≡ Some q → length q < most_passed
-        → IsFirstPart (append_known (W.taken out)
-        (session_text version (world_of cloud.old) (lines_in q))) (W.taken result.1) }
+        → WithStops tries version (world_of cloud.old) q (λ text.
+        IsFirstPart (append_known (W.taken out) text) (W.taken result.1)) }
     ensures unread { result.0 ≡ Step.Stopped Stop.Questions
         → Rises (Q.failures (feed_in lines.old)) (Q.failures (feed_in lines.new)) }
     ensures unwritten { result.0 ≡ Step.Stopped Stop.Output
@@ -142,10 +141,10 @@ fn answer_line<Q: Feed, W: Sink + Drop>(
     match next {
         Next::End => (Step::AtEnd, out),
         Next::Failed => (Step::Stopped(Stop::Questions), out),
-        _ => match hand_on(alloc, cloud, version, next, out) {
+        _ => match hand_on(alloc, cloud, version, tries, next, out) {
             (Ok(()), out) => (Step::Answered, out),
-            (Err(PageFault::WriteFailed), out) => (Step::Stopped(Stop::Output), out),
-            (Err(PageFault::NoMemory), out) => (Step::Stopped(Stop::NoMemory), out),
+            (Err(AnswerFault::WriteFailed), out) => (Step::Stopped(Stop::Output), out),
+            (Err(AnswerFault::NoMemory), out) => (Step::Stopped(Stop::NoMemory), out),
         },
     }
 }
@@ -155,15 +154,16 @@ fn answer_lines<Q: Feed, W: Sink + Drop>(
     alloc: Global,
     cloud: &mut Cloud,
     version: Version,
+    tries: Option<u64>,
     lines: &mut Lines<Q>,
     out: W,
 ) -> (Result<(), Stop>, W)
     ensures ok { OnOk result.0 ((q : List ℕ) → left Q.remaining lines.old ≡ Some q
-        → length q < most_passed → Appends (W.taken out) (W.taken result.1)
-        (session_text version (world_of cloud.old) (lines_in q))) }
+        → length q < most_passed → WithStops tries version (world_of cloud.old) q
+        (Appends (W.taken out) (W.taken result.1))) }
     ensures part { (q : List ℕ) → left Q.remaining lines.old ≡ Some q → length q < most_passed
-        → IsFirstPart (append_known (W.taken out)
-        (session_text version (world_of cloud.old) (lines_in q))) (W.taken result.1) }
+        → WithStops tries version (world_of cloud.old) q (λ text.
+        IsFirstPart (append_known (W.taken out) text) (W.taken result.1)) }
     ensures unread { result.0 ≡ Err Stop.Questions
         → Rises (Q.failures (feed_in lines.old)) (Q.failures (feed_in lines.new)) }
     ensures unwritten { result.0 ≡ Err Stop.Output
@@ -171,7 +171,7 @@ fn answer_lines<Q: Feed, W: Sink + Drop>(
 {
     let mut out = out;
     'turns: for _ in 0..u64::MAX {
-        let (step, rest) = answer_line(alloc, cloud, version, lines, out);
+        let (step, rest) = answer_line(alloc, cloud, version, tries, lines, out);
         out = rest;
         match step {
             Step::Answered => {}
@@ -205,6 +205,7 @@ fn tell_stop<E: Sink>(alloc: Global, err: &mut E, stop: Stop) -> u8
 fn hold<Q: Feed, W: Sink + Drop, E: Sink>(
     alloc: Global,
     version: Version,
+    tries: Option<u64>,
     cloud: Cloud,
     lines: &mut Lines<Q>,
     out: W,
@@ -214,12 +215,12 @@ fn hold<Q: Feed, W: Sink + Drop, E: Sink>(
         → (Rises (Q.failures (feed_in lines.old)) (Q.failures (feed_in lines.new)) → ⊥)
         → (Rises (W.failures out) (W.failures result.1) → ⊥)
         → (q : List ℕ) → left Q.remaining lines.old ≡ Some q → length q < most_passed
-        → IsAnswered (held version (world_of cloud) q) (W.taken out) (W.taken result.1)
-        (E.taken err.old) (E.taken err.new) result.0 }
+        → WithStops tries version (world_of cloud) q (λ text. IsAnswered (written text 0)
+        (W.taken out) (W.taken result.1) (E.taken err.old) (E.taken err.new) result.0) }
     ensures written { result.0 ≡ 0
         → (q : List ℕ) → left Q.remaining lines.old ≡ Some q → length q < most_passed
-        → IsAnswered (held version (world_of cloud) q) (W.taken out) (W.taken result.1)
-        (E.taken err.old) (E.taken err.new) result.0 }
+        → WithStops tries version (world_of cloud) q (λ text. IsAnswered (written text 0)
+        (W.taken out) (W.taken result.1) (E.taken err.old) (E.taken err.new) result.0) }
     ensures unread { result.0 ≡ 3
         → AreUnread (Rises (Q.failures (feed_in lines.old)) (Q.failures (feed_in lines.new)))
         (E.taken err.old) (E.taken err.new) (E.failures err.old) (E.failures err.new) }
@@ -229,34 +230,51 @@ fn hold<Q: Feed, W: Sink + Drop, E: Sink>(
     ensures memory { result.0 ≡ 7 → TakesLine (E.taken err.old) (E.taken err.new)
         (E.failures err.old) (E.failures err.new) memory_line }
     ensures part { (q : List ℕ) → left Q.remaining lines.old ≡ Some q → length q < most_passed
-        → IsFirstPart (append_known (W.taken out) (held version (world_of cloud) q).output)
-        (W.taken result.1) }
+        → WithStops tries version (world_of cloud) q (λ text.
+        IsFirstPart (append_known (W.taken out) text) (W.taken result.1)) }
     ensures status { Contains (0 ∷ 3 ∷ 6 ∷ 7 ∷ []) result.0 }
     ensures err_failures { E.failures err.old ≤ E.failures err.new }
 {
     let mut cloud = cloud;
-    match answer_lines(alloc, &mut cloud, version, lines, out) {
+    match answer_lines(alloc, &mut cloud, version, tries, lines, out) {
         (Ok(()), out) => (0, out),
         (Err(stop), out) => (tell_stop(alloc, err, stop), out),
     }
 }
 
-/// Runs a session: reads the tables in their order, then one line of questions after another, and hands on each answer whole before the next line is read.
+/// Runs a session: reads the tables in their order, then one line of questions after another, and hands on each answer before the next line is read.
 /// Where the tables' paths are given, what is to be done is told behind the line of tables that are refused. Answers the status and the output sink.
+///
+/// Each search that a question makes may make so many tries; without a number, as many as it takes. Where it stops, a first part of the output is written,
+/// and that ends with 8: nothing changes then, and the session goes on.
 ///
 /// 0: the questions are at their end; 3: a table or its reading refused, or the questions can't be read; 6: the output failed; 7: want of memory.
 /// With 3 to 7 a line on the error sink says so. Its memory doesn't grow with the number of questions.
 pub fn run_session<R: Feed, Q: Feed, W: Sink + Drop, E: Sink>(
     alloc: Global,
     version: Version,
+    tries: Option<u64>,
     detail: Option<&Paths>,
     inputs: &mut Inputs<R>,
     lines: &mut Lines<Q>,
     out: W,
     err: &mut E,
 ) -> (u8, W)
-    // Where memory suffices and no device fails: exactly the answers, or the refusal of the tables, and the status.
-    ensures answered { result.0 ≢ 7
+    // Where memory suffices and no device fails: exactly the answers, or the refusal of the tables, and the status. Searches may have stopped.
+    ensures answered_within { result.0 ≢ 7
+        → ((t : Table) → FeedRose R.failures inputs.old inputs.new t → ⊥)
+        → (Rises (Q.failures (feed_in lines.old)) (Q.failures (feed_in lines.new)) → ⊥)
+        → (Rises (W.failures out) (W.failures result.1) → ⊥)
+        → (Rises (E.failures err.old) (E.failures err.new) → ⊥)
+        → (b : Bytes) → TellBytes R.remaining inputs.old b
+        → (q : List ℕ) → left Q.remaining lines.old ≡ Some q → length q < most_passed
+        → (stops : List (Option (List ℕ)))
+        × AreStops tries version (world_stated (tables_in b)) stops (lines_in q)
+        × IsAnswered (session_answer_with (detail_shown detail.entry) version b stops q)
+        (W.taken out) (W.taken result.1) (E.taken err.old) (E.taken err.new) result.0 }
+
+    // The same without a number of tries: no search stops.
+    ensures answered { tries ≡ None → result.0 ≢ 7
         → ((t : Table) → FeedRose R.failures inputs.old inputs.new t → ⊥)
         → (Rises (Q.failures (feed_in lines.old)) (Q.failures (feed_in lines.new)) → ⊥)
         → (Rises (W.failures out) (W.failures result.1) → ⊥)
@@ -267,7 +285,14 @@ pub fn run_session<R: Feed, Q: Feed, W: Sink + Drop, E: Sink>(
         (W.taken result.1) (E.taken err.old) (E.taken err.new) result.0 }
 
     // Whatever the devices do: what each status says.
-    ensures written { result.0 ≡ 0 → (b : Bytes) → TellBytes R.remaining inputs.old b
+    ensures written_within { result.0 ≡ 0 → (b : Bytes) → TellBytes R.remaining inputs.old b
+        → (q : List ℕ) → left Q.remaining lines.old ≡ Some q → length q < most_passed
+        → (stops : List (Option (List ℕ)))
+        × AreStops tries version (world_stated (tables_in b)) stops (lines_in q)
+        × IsAnswered (session_answer_with (detail_shown detail.entry) version b stops q)
+        (W.taken out) (W.taken result.1) (E.taken err.old) (E.taken err.new) result.0 }
+    ensures written { tries ≡ None → result.0 ≡ 0
+        → (b : Bytes) → TellBytes R.remaining inputs.old b
         → (q : List ℕ) → left Q.remaining lines.old ≡ Some q → length q < most_passed
         → IsAnswered (session_answer (detail_shown detail.entry) version b q) (W.taken out)
         (W.taken result.1) (E.taken err.old) (E.taken err.new) result.0 }
@@ -287,7 +312,14 @@ pub fn run_session<R: Feed, Q: Feed, W: Sink + Drop, E: Sink>(
         (E.failures err.old) (E.failures err.new) output_line }
     ensures memory { result.0 ≡ 7 → TakesLine (E.taken err.old) (E.taken err.new)
         (E.failures err.old) (E.failures err.new) memory_line }
-    ensures part { (b : Bytes) → TellBytes R.remaining inputs.old b
+    ensures part_within { (b : Bytes) → TellBytes R.remaining inputs.old b
+        → (q : List ℕ) → left Q.remaining lines.old ≡ Some q → length q < most_passed
+        → (stops : List (Option (List ℕ)))
+        × AreStops tries version (world_stated (tables_in b)) stops (lines_in q)
+        × IsFirstPart (append_known (W.taken out)
+        (session_answer_with (detail_shown detail.entry) version b stops q).output)
+        (W.taken result.1) }
+    ensures part { tries ≡ None → (b : Bytes) → TellBytes R.remaining inputs.old b
         → (q : List ℕ) → left Q.remaining lines.old ≡ Some q → length q < most_passed
         → IsFirstPart (append_known (W.taken out)
         (session_answer (detail_shown detail.entry) version b q).output) (W.taken result.1) }
@@ -295,7 +327,7 @@ pub fn run_session<R: Feed, Q: Feed, W: Sink + Drop, E: Sink>(
     ensures err_failures { E.failures err.old ≤ E.failures err.new }
 {
     match read_inputs(alloc, detail, inputs) {
-        Ok(cloud) => hold(alloc, version, cloud, lines, out, err),
+        Ok(cloud) => hold(alloc, version, tries, cloud, lines, out, err),
         Err(refused) => (tell(err, &refused), out),
     }
 }

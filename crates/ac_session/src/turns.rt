@@ -15,14 +15,17 @@ ghost use Rattle.ac_fill.specs.Filled.{asks_units, filled};
 ghost use Rattle.ac_fill.specs.Shown.{IsTakenOf, with_taken};
 ghost use Rattle.ac_run.specs.Outputs.{counted, verdict_text};
 ghost use Rattle.ac_run.specs.Tasks.{task_of};
+ghost use Rattle.ac_search.specs.Shown.Walk.{MayStop};
 ghost use Rattle.ac_session.specs.Questions.{asked_in};
 ghost use Rattle.ac_session.specs.Standing.{Gives, IsRefusal, TakesTurn};
 ghost use Rattle.ac_session.specs.Lines.{Given};
 ghost use Rattle.ac_session.specs.Reading.{given_by};
+ghost use Rattle.ac_session.specs.Tries.{AskedMayStop, FillMayStop, GivenMayStop, JobMayStop};
 ghost use Rattle.ac_session.specs.Turns.{after_fill, claim_said, claim_turn, fill_turn, places_named, release_said, release_turn, settles, turn_asked, turn_of};
 ghost use Rattle.ac_session.specs.UsageRows.{usage_rows};
+ghost use Rattle.ac_session.specs.declared.endings.AnswerFault.TheVariants as AnswerFault;
 
-use crate::endings::{Ending, given, refused, write_said};
+use crate::endings::{AnswerFault, Ending, broken_off, given, refused, write_said};
 use crate::line_faults::LineFault;
 use crate::lines::Next;
 use crate::questions::{Question, read_question};
@@ -39,18 +42,21 @@ use ac_search::Walk;
 use ac_tables::Cloud;
 use std::alloc::Global;
 
-// The answer to a job.
+// The answer to a job, of which each search may make so many tries.
 fn answer_job<W: Sink>(
     alloc: Global,
     cloud: &Cloud,
-    job: &Job,
+    job: Job<'_>,
+    tries: Option<u64>,
     out: &mut W,
-) -> Result<Ending, PageFault>
-    ensures { Gives (Some (answer_in (task_of job.now) (world_of cloud.now))) result
+) -> Result<Ending, AnswerFault>
+    ensures { Gives (JobMayStop tries (world_of cloud.now) (task_of job.entry))
+        (Some (answer_in (task_of job.entry) (world_of cloud.now))) result
         (W.taken out.old) (W.taken out.new) (W.failures out.old) (W.failures out.new) }
 {
-    match read_wanted(alloc, job, cloud) {
-        Ok(wanted) => given(write_answer(alloc, cloud, &wanted, out)),
+    let job = Job { tries, ..job };
+    match read_wanted(alloc, &job, cloud) {
+        Ok(wanted) => given(write_answer(alloc, cloud, &wanted, tries, out)),
         Err(refusal) => refused(refusal),
     }
 }
@@ -86,8 +92,8 @@ fn read_assignment(
 }
 
 // The rule that a list breaks, as `verify` tells it.
-fn write_verdict<W: Sink>(verdict: Verdict, out: &mut W) -> Result<Ending, PageFault>
-    ensures { Gives (Some (written (verdict_text verdict) 1)) result
+fn write_verdict<W: Sink>(verdict: Verdict, out: &mut W) -> Result<Ending, AnswerFault>
+    ensures { Gives ⊥ (Some (written (verdict_text verdict) 1)) result
         (W.taken out.old) (W.taken out.new) (W.failures out.old) (W.failures out.new) }
 {
     push_verdict(out, verdict)?;
@@ -95,8 +101,8 @@ fn write_verdict<W: Sink>(verdict: Verdict, out: &mut W) -> Result<Ending, PageF
 }
 
 // What a claim says by the verdict.
-fn write_claimed<W: Sink>(verdict: Verdict, out: &mut W) -> Result<Ending, PageFault>
-    ensures { Gives (Some (claim_said verdict)) result
+fn write_claimed<W: Sink>(verdict: Verdict, out: &mut W) -> Result<Ending, AnswerFault>
+    ensures { Gives ⊥ (Some (claim_said verdict)) result
         (W.taken out.old) (W.taken out.new) (W.failures out.old) (W.failures out.new) }
 {
     match verdict {
@@ -106,8 +112,8 @@ fn write_claimed<W: Sink>(verdict: Verdict, out: &mut W) -> Result<Ending, PageF
 }
 
 // What a release says by whether all is in use.
-fn write_released<W: Sink>(in_use: bool, out: &mut W) -> Result<Ending, PageFault>
-    ensures { Gives (Some (release_said in_use)) result
+fn write_released<W: Sink>(in_use: bool, out: &mut W) -> Result<Ending, AnswerFault>
+    ensures { Gives ⊥ (Some (release_said in_use)) result
         (W.taken out.old) (W.taken out.new) (W.failures out.old) (W.failures out.new) }
 {
     if in_use {
@@ -125,8 +131,9 @@ fn answer_claim<W: Sink>(
     query: &str,
     token: &str,
     out: &mut W,
-) -> Result<Ending, PageFault>
-    ensures { TakesTurn (claim_turn version query.now token.now (world_of cloud.old)) result
+) -> Result<Ending, AnswerFault>
+    ensures { TakesTurn ⊥ (world_of cloud.old)
+        (claim_turn version query.now token.now (world_of cloud.old)) result
         (world_of cloud.new) (W.taken out.old) (W.taken out.new) (W.failures out.old)
         (W.failures out.new) }
 {
@@ -151,8 +158,9 @@ fn answer_release<W: Sink>(
     query: &str,
     token: &str,
     out: &mut W,
-) -> Result<Ending, PageFault>
-    ensures { TakesTurn (release_turn version query.now token.now (world_of cloud.old)) result
+) -> Result<Ending, AnswerFault>
+    ensures { TakesTurn ⊥ (world_of cloud.old)
+        (release_turn version query.now token.now (world_of cloud.old)) result
         (world_of cloud.new) (W.taken out.old) (W.taken out.new) (W.failures out.old)
         (W.failures out.new) }
 {
@@ -169,12 +177,13 @@ fn answer_release<W: Sink>(
     }
 }
 
-// The placements of a query, over the cloud as it is.
+// The placements of a query, over the cloud as it is. Their search may make so many tries.
 #[tactic(auto, using(ac_base::proofs::Leaving::part_none, ac_fill::proofs::Ordered::all_rest))]
 fn write_placements<'a, W: Sink>(
     alloc: Global,
     cloud: &Cloud,
     query: &'a Query,
+    tries: Option<u64>,
     out: &mut W,
 ) -> Result<Filled<'a>, PageFault>
     requires { asks_units (shown query.now) ≡ true }
@@ -189,30 +198,39 @@ fn write_placements<'a, W: Sink>(
         (fills (providers_of cloud.now) false (shown query.now) None).output) }
     ensures failed { result ≡ Err PageFault.WriteFailed
         → Rises (W.failures out.old) (W.failures out.new) }
+    ensures stopped { result ≡ Err PageFault.TooManyTries
+        → MayStop tries (providers_of cloud.now) (shown query.now) None }
     ensures failures { W.failures out.old ≤ W.failures out.new }
 {
-    let Ok(mut source) = Walk::new(alloc, cloud, query, None) else {
+    let Ok(source) = Walk::new(alloc, cloud, query, None) else {
         return Err(PageFault::NoMemory);
     };
+    let mut source = source.within(tries);
     write_filled(alloc, cloud, query, &mut source, out)
 }
 
-// The placements of a query, each of which is claimed, and their status.
+// The placements of a query, each of which is claimed, and their status. Where their search stops, none is.
 fn place_all<W: Sink>(
     alloc: Global,
     cloud: &mut Cloud,
     query: &Query,
+    tries: Option<u64>,
     out: &mut W,
-) -> Result<Ending, PageFault>
+) -> Result<Ending, AnswerFault>
     requires { asks_units (shown query.now) ≡ true }
-    ensures { TakesTurn (settles (world_of cloud.old)
+    ensures { TakesTurn (MayStop tries (providers_of cloud.old) (shown query.now) None)
+        (world_of cloud.old) (settles (world_of cloud.old)
         (fills (providers_of cloud.old) false (shown query.now) None)
         (after_fill (providers_of cloud.old) (shown query.now))) result (world_of cloud.new)
         (W.taken out.old) (W.taken out.new) (W.failures out.old) (W.failures out.new) }
 {
-    let mut filled = write_placements(alloc, cloud, query, out)?;
-    filled.takings.settle(cloud);
-    Ok(Ending::Given(fill_status(filled.count)))
+    match write_placements(alloc, cloud, query, tries, out) {
+        Ok(mut filled) => {
+            filled.takings.settle(cloud);
+            Ok(Ending::Given(fill_status(filled.count)))
+        }
+        Err(fault) => broken_off(fault),
+    }
 }
 
 // The answer to placements.
@@ -221,21 +239,24 @@ fn answer_fill<W: Sink>(
     cloud: &mut Cloud,
     version: Version,
     query: &str,
+    tries: Option<u64>,
     out: &mut W,
-) -> Result<Ending, PageFault>
-    ensures { TakesTurn (fill_turn version query.now (world_of cloud.old)) result
+) -> Result<Ending, AnswerFault>
+    ensures { TakesTurn (FillMayStop tries version (world_of cloud.old) query.now)
+        (world_of cloud.old)
+        (fill_turn version query.now (world_of cloud.old)) result
         (world_of cloud.new) (W.taken out.old) (W.taken out.new) (W.failures out.old)
         (W.failures out.new) }
 {
     match read_query(alloc, query, version) {
-        Ok(query) => place_all(alloc, cloud, &query, out),
+        Ok(query) => place_all(alloc, cloud, &query, tries, out),
         Err(refusal) => refused(refusal),
     }
 }
 
 // The table of usages.
-fn answer_usages<W: Sink>(alloc: Global, cloud: &Cloud, out: &mut W) -> Result<Ending, PageFault>
-    ensures { Gives (Some (usage_rows (providers_of cloud.now))) result
+fn answer_usages<W: Sink>(alloc: Global, cloud: &Cloud, out: &mut W) -> Result<Ending, AnswerFault>
+    ensures { Gives ⊥ (Some (usage_rows (providers_of cloud.now))) result
         (W.taken out.old) (W.taken out.new) (W.failures out.old) (W.failures out.new) }
 {
     given(write_usages(alloc, cloud, out))
@@ -246,16 +267,19 @@ fn answer_question<W: Sink>(
     alloc: Global,
     cloud: &mut Cloud,
     version: Version,
+    tries: Option<u64>,
     question: Question<'_>,
     out: &mut W,
-) -> Result<Ending, PageFault>
-    ensures { TakesTurn (turn_asked version (world_of cloud.old) (asked_in question.entry))
+) -> Result<Ending, AnswerFault>
+    ensures { TakesTurn
+        (AskedMayStop tries version (world_of cloud.old) (asked_in question.entry))
+        (world_of cloud.old) (turn_asked version (world_of cloud.old) (asked_in question.entry))
         result (world_of cloud.new) (W.taken out.old) (W.taken out.new) (W.failures out.old)
         (W.failures out.new) }
 {
     match question {
-        Question::Job(job) => answer_job(alloc, cloud, &job, out),
-        Question::Fill { query } => answer_fill(alloc, cloud, version, query, out),
+        Question::Job(job) => answer_job(alloc, cloud, job, tries, out),
+        Question::Fill { query } => answer_fill(alloc, cloud, version, query, tries, out),
         Question::Claim { query, token } => answer_claim(alloc, cloud, version, query, token, out),
         Question::Release { query, token } => {
             answer_release(alloc, cloud, version, query, token, out)
@@ -267,25 +291,36 @@ fn answer_question<W: Sink>(
     }
 }
 
-/// Answers what a reader of lines gave: writes the output, and gives how the answer ends. A failure gives nothing, and nothing is answered.
-#[tactic(auto, unfolding(crate::specs::Turns::turn_of))]
+/// Answers what a reader of lines gave: writes the output, and gives how the answer ends. Each search may make so many tries. A failure gives nothing, and
+/// nothing is answered.
+#[tactic(auto, unfolding(crate::specs::Turns::turn_of, crate::specs::Tries::GivenMayStop))]
 pub(crate) fn answer_next<W: Sink>(
     alloc: Global,
     cloud: &mut Cloud,
     version: Version,
+    tries: Option<u64>,
     next: Next<'_>,
     out: &mut W,
-) -> Result<Ending, PageFault>
+) -> Result<Ending, AnswerFault>
     ensures turn { (given : Given) → given_by next.entry ≡ Some given
-        → TakesTurn (turn_of version (world_of cloud.old) given) result (world_of cloud.new)
-        (W.taken out.old) (W.taken out.new) (W.failures out.old) (W.failures out.new) }
-    ensures failed { result ≡ Err PageFault.WriteFailed
+        → TakesTurn (GivenMayStop tries version (world_of cloud.old) given)
+        (world_of cloud.old) (turn_of version (world_of cloud.old) given) result
+        (world_of cloud.new) (W.taken out.old) (W.taken out.new) (W.failures out.old)
+        (W.failures out.new) }
+    ensures failed { result ≡ Err AnswerFault.WriteFailed
         → Rises (W.failures out.old) (W.failures out.new) }
     ensures failures { W.failures out.old ≤ W.failures out.new }
 {
     match next {
         Next::Line(line) => {
-            answer_question(alloc, cloud, version, read_question(line, version), out)
+            answer_question(
+                alloc,
+                cloud,
+                version,
+                tries,
+                read_question(line, version),
+                out,
+            )
         }
         Next::TooLong => Ok(Ending::Faulted(LineFault::TooLong)),
         Next::End | Next::Failed => Ok(Ending::Unasked),

@@ -12,7 +12,7 @@ use std::alloc::Global;
 /// Writes the table of usages, or, where more is used than may stand in one, a line that says so.
 #[tactic(auto, unfolding(crate::specs::UsageRows::usage_rows), using(ac_base::proofs::Leaving::part_none))]
 pub fn write_usages<W: Sink>(alloc: Global, cloud: &Cloud, out: &mut W) -> Result<u8, PageFault>
-    ensures { Delivers (usage_rows (providers_of cloud.now)) result (W.taken out.old)
+    ensures { Delivers (usage_rows (providers_of cloud.now)) ⊥ result (W.taken out.old)
         (W.taken out.new) (W.failures out.old) (W.failures out.new) }
 {
     if usages_fit(cloud) {

@@ -1,5 +1,5 @@
 -- The command line: what `clap` is told of it, and what it states of the words.
-use Rattle.std.specs.Prelude.{◌≡◌, ◌≢◌, ◌&&◌, ⊤, List, [], ◌∷◌, ◌++◌, Bool, Option, Some, None, true, false, not, codes, is_some, option_map, string_bytes, if◌then◌else◌}
+use Rattle.std.specs.Prelude.{◌≡◌, ◌≢◌, ◌&&◌, ⊤, ℕ, List, [], ◌∷◌, ◌++◌, Bool, Option, Some, None, true, false, not, codes, is_some, option_map, string_bytes, if◌then◌else◌}
 use Rattle.std.specs.declared.alloc.Global.{Global}
 use Rattle.std.specs.declared.string.String.{String}
 use Rattle.std.specs.List.{list_any}
@@ -11,6 +11,7 @@ use Rattle.clap.specs.Words.{App, IsAmong, Kinds, Row, Rule, Text, fault_of, fir
 use Rattle.clap.specs.declared.builder.action.ArgAction.TheVariants.{SetTrue}
 use Rattle.clap.specs.declared.error.kind.ErrorKind.{ErrorKind}
 use Rattle.clap.specs.declared.error.kind.ErrorKind.TheVariants.{ArgumentConflict, DisplayHelp, DisplayVersion, InvalidValue, MissingRequiredArgument}
+use Rattle.ac_base.specs.Texts.{count_value}
 use Rattle.ac_query.specs.declared.version.Version.{Version}
 use Rattle.ac_query.specs.declared.version.Version.TheVariants.{V136, V139}
 use Rattle.ac_run.specs.Tasks.{Command, Paths, Task, check, candidates, tokens, list, fill, verify, explain, hosts, why, command_shown}
@@ -57,6 +58,10 @@ with_common app = with_rule (with_tables app) (flag_rule (codes "detail"))
 abbrev pub with_options : App → App
 with_options app = with_rule (with_common app) (option_rule (codes "microversion"))
 
+-- the options of a command that searches: those of a command with queries, and how many tries a search may make
+abbrev pub with_tries : App → App
+with_tries app = with_rule (with_options app) (option_rule (codes "tries"))
+
 abbrev pub query_app : Text → App
 query_app name = with_rule (new_app name) (word_rule (codes "query"))
 
@@ -65,7 +70,7 @@ check_app = with_common (new_app (codes "check"))
 
 -- a command that writes candidates
 abbrev pub search_app : Text → App
-search_app name = with_rule (with_options (query_app name)) (option_rule (codes "after"))
+search_app name = with_rule (with_tries (query_app name)) (option_rule (codes "after"))
 
 -- a command that writes candidates with what is told of their providers
 abbrev pub shown_app : Text → App
@@ -81,23 +86,23 @@ abbrev pub list_app : App
 list_app = shown_app (codes "list")
 
 abbrev pub fill_app : App
-fill_app = with_rule (with_options (query_app (codes "fill"))) (flag_rule (codes "sum"))
+fill_app = with_rule (with_tries (query_app (codes "fill"))) (flag_rule (codes "sum"))
 
 abbrev pub verify_app : App
 verify_app = with_options (with_rule (query_app (codes "verify")) (word_rule (codes "token")))
 
 abbrev pub explain_app : App
-explain_app = with_options (query_app (codes "explain"))
+explain_app = with_tries (query_app (codes "explain"))
 
 abbrev pub hosts_app : App
-hosts_app = with_options (query_app (codes "hosts"))
+hosts_app = with_tries (query_app (codes "hosts"))
 
 abbrev pub why_app : App
-why_app = with_options (with_rule (query_app (codes "why")) (word_rule (codes "host")))
+why_app = with_tries (with_rule (query_app (codes "why")) (word_rule (codes "host")))
 
 -- a session, which reads its queries later
 abbrev pub session_app : App
-session_app = with_options (new_app (codes "session"))
+session_app = with_tries (new_app (codes "session"))
 
 -- what is told of a command
 abbrev pub app_for : Name → App
@@ -158,6 +163,20 @@ abbrev pub version_kinds : Option Version → Kinds
 version_kinds None = InvalidValue ∷ []
 version_kinds (Some version) = []
 
+-- how many tries a text says; without it, no number is set
+abbrev pub tries_named : Option Text → Option (Option ℕ)
+tries_named None = Some None
+tries_named (Some text) = option_map Some (count_value text)
+
+-- how many tries a search may make
+abbrev pub tries_of : List Row → Option (Option ℕ)
+tries_of rows = tries_named (first_of (codes "tries") rows)
+
+-- what is no count is a value that isn't valid
+abbrev pub tries_kinds : Option (Option ℕ) → Kinds
+tries_kinds None = InvalidValue ∷ []
+tries_kinds (Some tries) = []
+
 -- what the option of a table says
 abbrev pub option_of : List Row → Table → Option Text
 option_of rows table = first_of (table_name table) rows
@@ -179,12 +198,12 @@ table_kinds rows =
     if is_some (folder_of rows) then (if list_any (has_option rows) all_tables then ArgumentConflict ∷ [] else [])
     else (if has_option rows Providers && has_option rows Inventories then [] else MissingRequiredArgument ∷ [])
 
--- the fault of the version and the tables that are named with a command
+-- the fault of the version, the tries and the tables that are named with a command
 abbrev pub own_faults : Option (Name × List Row) → Kinds
 own_faults None = []
-own_faults (Some p) = or_else (version_kinds (version_of p.1)) (table_kinds p.1)
+own_faults (Some p) = or_else (version_kinds (version_of p.1)) (or_else (tries_kinds (tries_of p.1)) (table_kinds p.1))
 
--- `clap` refuses them for want of memory alone, and their version and tables have no fault
+-- `clap` refuses them for want of memory alone, and their version, tries and tables have no fault
 unfoldable pub is_taken : List Text → Bool
 is_taken words = takes program words && is_empty (own_faults (named words))
 
@@ -203,6 +222,7 @@ pub data Call : Type 0 where
 pub record Line : Type 0 where
   pub call : Call
   pub version : Version
+  pub tries : Option ℕ
   pub detail : Bool
   pub paths : Paths
 
@@ -211,7 +231,7 @@ abbrev pub task_in : Line → Option Paths → Option Task
 task_in line detail = task_called line.call
   where
     task_called : Call → Option Task
-    task_called (job command query) = Some (record { command = command; query = query; version = line.version; detail = detail })
+    task_called (job command query) = Some (record { command = command; query = query; version = line.version; tries = line.tries; detail = detail })
     task_called session = None
 
 -- a command with its query, without the path of a URL before it
@@ -280,6 +300,7 @@ paths_of rows = paths_by (folder_of rows) rows
 pub record IsMadeOf (name : Name) (rows : List Row) (line : Line) : Type 0 where
   pub call : call_of name rows ≡ Some line.call
   pub version : version_of rows ≡ Some line.version
+  pub tries : tries_of rows ≡ Some line.tries
   pub detail : detail_of rows ≡ line.detail
   pub paths : paths_of rows ≡ Some line.paths
 

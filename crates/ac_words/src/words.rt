@@ -32,6 +32,7 @@ enum Call<'a> {
 pub struct Words<'a> {
     call: Call<'a>,
     version: Version,
+    tries: Option<u64>,
     detail: bool,
     paths: FiveTables<String>,
 }
@@ -42,6 +43,7 @@ impl<'a> Model for Words<'a> {
     ghost view = { λ w. record {
       call = call_shown w.call;
       version = w.version;
+      tries = w.tries;
       detail = w.detail;
       paths = paths_kept w.paths;
     } };
@@ -57,6 +59,7 @@ impl<'a> Words<'a> {
                 command,
                 query,
                 version: self.version,
+                tries: self.tries,
                 detail,
             }),
             Call::Session => None,
@@ -68,6 +71,13 @@ impl<'a> Words<'a> {
         ensures { result ≡ self.now.version }
     {
         self.version
+    }
+
+    /// How many tries each search may make; without a number, as many as it takes.
+    pub fn tries(&self) -> Option<u64>
+        ensures { result ≡ self.now.tries }
+    {
+        self.tries
     }
 
     /// Whether more is said: below the line of a fault what to do about it, and of a verdict of what a rule is broken.

@@ -1,10 +1,10 @@
 -- A page, list by list.
 use Rattle.std.proofs.lemmas.Grind.{common_steps}
-use Rattle.std.proofs.Common.{◌≡◌, ◌∙◌, ◌≤◌, ◌+◌, ◌-◌, ℕ, zero, suc, min, List, [], ◌∷◌, take, drop, length, Option, Some, None, Result, Ok, refl, sym, ap, append-nil, take-append-drop, arith}
+use Rattle.std.proofs.Common.{◌≡◌, ◌∙◌, ◌≤◌, ◌+◌, ◌-◌, ℕ, zero, suc, min, List, [], ◌∷◌, take, drop, length, Option, Some, None, Result, Ok, Err, refl, sym, ap, append-nil, take-append-drop, arith}
 use Rattle.std.specs.List.{All}
 use Rattle.std.specs.Result.{IsErrAnd}
 use Rattle.std.proofs.lemmas.Result.{IfOk-weaker, err_from_is_err_and, on_err_weaker, on_ok_weaker}
-use Rattle.ac_rules.specs.Lists.{head_of, tail_of}
+use Rattle.ac_rules.specs.Lists.{head_of, left_behind, tail_of}
 use Rattle.ac_rules.specs.Pages.{cut}
 use Rattle.ac_report.specs.declared.fault.PageFault.{PageFault}
 use Rattle.ac_report.specs.Outcomes.{Reads, one_less}
@@ -20,6 +20,13 @@ all_head P ls x e h = grind (arith, common_steps)
 pub all_tail : (P : List ℕ → Type 0) (ls : Lists) → All P ls → All P (tail_of ls)
 all_tail P [] h = h
 all_tail P (y ∷ ls) h = λ k d lt. h (suc k) d (omega arith)
+
+-- what a source has left behind the list that it gave, and where it stopped; the answer is told by what `?` makes of it
+pub tail_given : {E F X : Type 0} (of : F → Result X E) (old : Lists) {r : Result X E} {flow step : F} {x : X} {new : Lists} → r ≡ of flow → flow ≡ step → of step ≡ Ok x → new ≡ left_behind r old → new ≡ tail_of old
+tail_given of old is went gave left = left ∙ ap (λ r. left_behind r old) (is ∙ (ap of went ∙ gave))
+
+pub same_stopped : {E F X : Type 0} (of : F → Result X E) (old : Lists) {r : Result X E} {flow step : F} {e : E} {new : Lists} → r ≡ of flow → flow ≡ step → of step ≡ Err e → new ≡ left_behind r old → new ≡ old
+same_stopped of old is broke stopped left = left ∙ ap (λ r. left_behind r old) (is ∙ (ap of broke ∙ stopped))
 
 take_short : (n : ℕ) (xs : Lists) → length (take n xs) ≤ n
 take_short zero xs = omega arith
@@ -70,6 +77,14 @@ module _ (limit : Option ℕ) (from : ℕ) (old mid : Lists) (x : List ℕ) (is 
     where
       none : (limit : Option ℕ) → IsWithin 0 (one_less limit)
       none limit = grind (arith, common_steps)
+
+-- none is read where the source stops
+pub read_stopped : (limit : Option ℕ) (from : ℕ) (old new : Lists) (r : Result ℕ PageFault) (Q : PageFault → Type 0) → IsErrAnd r Q → new ≡ old → Reads limit from r old new
+read_stopped limit from old new r Q h same = let e = err_from_is_err_and r h in rw (e.1, same) record { left = tt; count = tt; gone = ([], refl, none limit) }
+  where
+    none : (limit : Option ℕ) → IsWithin 0 limit
+    none None = tt
+    none (Some n) = omega arith
 
 -- no list is left, or none is wanted
 module _ (limit : Option ℕ) (old : Lists) where

@@ -5,7 +5,7 @@ mod differences;
 mod nobody;
 mod without;
 
-ghost use Rattle.std.specs.Prelude.{◌≡◌, ◌+◌, ◌<◌, ◌≤◌, ◌++◌, IfOk, length, map};
+ghost use Rattle.std.specs.Prelude.{◌≡◌, ◌+◌, ◌<◌, ◌≤◌, ◌++◌, Err, IfOk, None, length, map};
 ghost use Rattle.ac_cloud.specs.Cloud.CloudWorld.{providers_of};
 ghost use Rattle.ac_query.specs.Asked.{slots_of};
 ghost use Rattle.ac_query.specs.Shown.Groups.{need_entry};
@@ -19,6 +19,8 @@ ghost use Rattle.ac_report.specs.Findings.Explanation.Differing.{differs_lines};
 ghost use Rattle.ac_report.specs.Findings.Explanation.Nobody.{nobody_lines};
 ghost use Rattle.ac_report.specs.Findings.Explanation.Shown.{found_shown};
 ghost use Rattle.ac_base.specs.Writing.{Pushes};
+ghost use Rattle.ac_search.specs.Shown.Walk.{MayStop};
+ghost use Rattle.ac_search.specs.declared.fault.SearchFault.TheVariants as fault;
 
 use self::differences::push_differences;
 use self::nobody::push_missing;
@@ -27,13 +29,13 @@ pub use self::without::{FoundWithout, find_without};
 use crate::request::suffix_text;
 use ac_base::pieces::digits::Digits;
 use ac_base::pieces::push_pieces;
-use ac_base::{NoMemory, Sink, WriteFailed, push_all};
+use ac_base::{Sink, WriteFailed, push_all};
 use ac_cloud::Cloud;
 use ac_find::{SlotCounts, SlotTold, TreeCounts};
 use ac_query::{Need, Query};
 use ac_rules::Source;
 use ac_rules::slots::{group_at, needs_at};
-use ac_search::Walk;
+use ac_search::{SearchFault, Walk};
 use std::alloc::Global;
 
 // A class with its amount, behind a mark.
@@ -295,22 +297,26 @@ pub fn push_explanation<W: Sink>(
 }
 
 /// Whether there is a candidate. Where the counts say that no root has a provider for each slot and the traits that the group
-/// without a suffix requires, there is none, and none is searched for.
+/// without a suffix requires, there is none, and none is searched for. The search stops where it may make no more tries.
 pub fn has_candidate(
     alloc: Global,
     cloud: &Cloud,
     query: &Query,
     trees: &TreeCounts,
-) -> Result<bool, NoMemory>
+    tries: Option<u64>,
+) -> Result<bool, SearchFault>
     requires { trees_shown trees.now ≡ tree_counts (providers_of cloud.now) (asked_of query.now) }
-    ensures { IfOk result (λ found.
+    ensures found { IfOk result (λ found.
         found ≡ has_candidate (providers_of cloud.now) (asked_of query.now)) }
+    ensures stopped { result ≡ Err fault.TooManyTries
+        → MayStop tries (providers_of cloud.now) (asked_of query.now) None }
 {
     if trees.required_traits == 0 {
         return Ok(false);
     }
-    let mut walk = Walk::new(alloc, cloud, query, None)?;
-    Ok(walk.next().is_some())
+    let mut walk = Walk::new(alloc, cloud, query, None)?.within(tries);
+    let first = walk.next()?;
+    Ok(first.is_some())
 }
 
 /// 0 where a candidate was found, 1 where there is none.

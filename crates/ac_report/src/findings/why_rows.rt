@@ -1,6 +1,6 @@
 //! How far a query comes in the tree of a root, as `csv` writes it: a header, for each slot a row for each provider that is looked
 //! at, a row for the root, and what `hosts` says of it.
-ghost use Rattle.std.specs.Prelude.{◌≡◌, ◌+◌, ◌&&◌, ◌++◌, ◌∷◌, ◌<◌, ◌≤◌, ℕ, List, [], IfOk, length, map, string_bytes};
+ghost use Rattle.std.specs.Prelude.{◌≡◌, ◌+◌, ◌&&◌, ◌++◌, ◌∷◌, ◌<◌, ◌≤◌, ℕ, List, [], Err, IfOk, None, length, map, string_bytes};
 ghost use Rattle.std.specs.List.{list_any};
 ghost use Rattle.ac_cloud.specs.Providers.{provider_of};
 ghost use Rattle.ac_cloud.specs.World.{is_available_at, provider_at};
@@ -12,6 +12,8 @@ ghost use Rattle.ac_base.specs.Writing.Rows.{HasRows};
 ghost use Rattle.ac_rules.specs.Shown.Assignments.{placed_of};
 ghost use Rattle.ac_prune.specs.Fitting.{fits_at};
 ghost use Rattle.ac_find.specs.Lacking.{lack_at};
+ghost use Rattle.ac_search.specs.Shown.Walk.{MayStop};
+ghost use Rattle.ac_search.specs.declared.fault.SearchFault.TheVariants as fault;
 ghost use Rattle.ac_report.specs.Findings.HostRows.{lack_name, slot_shown};
 ghost use Rattle.ac_report.specs.Findings.WhyRows.{detail_of, fits_shown, has_a_class, has_inventory, placed_row, root_lack, root_place, root_row, rows_of_slots, slot_rows, stage_shown, why_fields, why_status, why_text};
 
@@ -30,7 +32,7 @@ use ac_query::{Need, Query};
 use ac_rules::Placed;
 use ac_rules::rules::anchor::takes_root;
 use ac_rules::slots::count_slots;
-use ac_search::fits_root;
+use ac_search::{SearchFault, fits_root};
 use csv::Writer;
 use std::alloc::Global;
 
@@ -290,21 +292,24 @@ pub fn root_place(cloud: &Cloud, host: u32) -> u32
     cloud.root(host)
 }
 
-/// The text of `why` for a root, and its status: 0 where the root fits, 1 where it doesn't.
+/// The text of `why` for a root, and its status: 0 where the root fits, 1 where it doesn't. The search stops where it may make no more tries.
 pub fn why_at(
     alloc: Global,
     cloud: &Cloud,
     query: &Query,
     root: u32,
-) -> Result<(Vec<u8>, u8), NoMemory>
+    tries: Option<u64>,
+) -> Result<(Vec<u8>, u8), SearchFault>
     requires { root < length (providers_of cloud.now) }
     ensures text { IfOk result (λ answer.
         answer.0.items ≡ why_text (providers_of cloud.now) (asked_of query.now) root) }
     ensures status { IfOk result (λ answer. answer.1
         ≡ why_status (fits_at (providers_of cloud.now) (asked_of query.now) root)) }
     ensures few { IfOk result (λ answer. answer.1 ≤ 1) }
+    ensures stopped { result ≡ Err fault.TooManyTries
+        → MayStop tries (providers_of cloud.now) (asked_of query.now) None }
 {
-    let fits = fits_root(alloc, cloud, query, root)?;
+    let fits = fits_root(alloc, cloud, query, root, tries)?;
     let lacks = find_lack(alloc, cloud, query, root, fits)?;
     let text = why_text(alloc, cloud, query, root, fits, lacks)?;
     Ok((text, why_status(fits)))

@@ -131,7 +131,7 @@ pub fn push_asked_line<E: Sink>(err: &mut E, refusal: &AskRefusal) -> Result<(),
 }
 
 // Pushes the line of a refusal.
-#[tactic(auto, unfolding(crate::specs::Lines::memory_line, crate::specs::Lines::output_line))]
+#[tactic(auto, unfolding(crate::specs::Lines::memory_line, crate::specs::Lines::output_line, crate::specs::Lines::tries_line))]
 fn push_line<E: Sink>(err: &mut E, refusal: &Refusal) -> Result<(), WriteFailed>
     ensures { Pushes E.taken E.failures err.old err.new result (line_of refusal.now) }
 {
@@ -139,6 +139,7 @@ fn push_line<E: Sink>(err: &mut E, refusal: &Refusal) -> Result<(), WriteFailed>
         Refusal::Tables(refusal) => push_tables_line(err, refusal),
         Refusal::Asked(refusal) => push_asked_line(err, refusal),
         Refusal::Output => push_whole(err, b"output: WriteFailed\n"),
+        Refusal::TooManyTries => push_whole(err, b"search: TooManyTries\n"),
         Refusal::NoMemory => push_whole(err, b"out of memory\n"),
     }
 }
@@ -163,6 +164,7 @@ fn status_of(refusal: &Refusal) -> u8
         Refusal::Tables(_) => 3,
         Refusal::Asked(refusal) => asked_status(refusal),
         Refusal::Output => 6,
+        Refusal::TooManyTries => 8,
         Refusal::NoMemory => 7,
     }
 }

@@ -5,7 +5,7 @@ use Rattle.std.proofs.lemmas.Bool.{not_from_false, not-true, false_from_ne_true,
 use Rattle.std.proofs.lemmas.List.{take-append-le}
 use Rattle.std.proofs.Math.Nat.{mul-le-mul_left}
 use Rattle.ac_rules.specs.Lists.{lex_lt}
-use Rattle.ac_prune.specs.Search.{Search, next_at}
+use Rattle.ac_prune.specs.Search.{Search, choices_at, next_at}
 use Rattle.ac_search.specs.Search.{all_shorter, next_front, is_up_to, is_between, between, is_met, met, IsSound}
 use Rattle.ac_rules.proofs.Elements.{each_weaker, count_less}
 use Rattle.ac_search.proofs.Search.FrontOrder.{lex_low_more, lex_high_more, lex_cut}
@@ -49,6 +49,10 @@ met_given m laws x q p b size = rw (length-between m laws) (count_less (λ w. is
 module _ {m : Search} (laws : IsSearch m) {x q used : List ℕ} {d j : ℕ} {seeking : Bool} {probes : ℕ} (s : IsSound m x q used d j seeking probes) where
   pub counted_end : probes ≤ m.count * length (between m x None)
   counted_end = let cost = mul-le-mul_left m.count (met_all m laws x (next_front m q d j)) in let was = s.paid in omega arith
+
+  -- there are more where there is one more choice
+  pub counted_more : j < length (choices_at m d) → probes < m.count * length (between m x None)
+  counted_more more = let cost = mul-le-mul_left m.count (met_all m laws x (next_front m q d j)) in let was = s.paid in omega arith
 
   pub counted_given : (p : ℕ) → suc d ≡ m.width → probes ≤ m.count * length (between m x (Some (q ++ p ∷ [])))
   counted_given p last = let cost = mul-le-mul_left m.count (met_given m laws x q p (next_at m d j) (omega (arith, s.long))) in let was = s.paid in omega arith

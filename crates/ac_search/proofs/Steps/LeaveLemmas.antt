@@ -14,7 +14,7 @@ use Rattle.ac_prune.specs.Fitting.{fits_at}
 use Rattle.ac_search.specs.Hosts.{is_looked_at, standing, search_at}
 use Rattle.ac_search.specs.Search.Steps.{Advances, Finishes}
 use Rattle.ac_search.specs.Shown.Hosts.{Settles, Leaves, IsSettled}
-use Rattle.ac_search.specs.Shown.Walk.{cloud_in, query_in, roots_in, left_of}
+use Rattle.ac_search.specs.Shown.Walk.{cloud_in, query_in, token_in, most_in, roots_in, left_of, may_stop, MayStop}
 use Rattle.ac_search.specs.declared.walk.Walk.{Walk}
 use Rattle.ac_prune.proofs.Paths.LedgerLemmas.{mapped_at}
 use Rattle.ac_prune.proofs.Search.OpenLemmas.{filter_few}
@@ -160,6 +160,14 @@ settles_begin w all asked marks cloud query roots left are =
       taken = rw (cloud, query, roots) (λ r low h. sym (here r low) ∙ h);
       found = rw (cloud, query, roots) (λ r low takes away. absurd (false≢true (sym away ∙ (here r low ∙ takes))));
     }
+
+-- where it goes on, it may stop as before
+pub may_on : (w u : Walk) → Advances w u → may_stop u → may_stop w
+may_on w u on may =
+    subst (λ most. MayStop most (cloud_in w) (query_in w) (token_in w)) on.tries.most
+    (subst (λ all. MayStop (most_in u) all (query_in w) (token_in w)) on.tries.cloud
+    (subst (λ asked. MayStop (most_in u) (cloud_in u) asked (token_in w)) on.tries.query
+    (subst (MayStop (most_in u) (cloud_in u) (query_in u)) on.tries.token may)))
 
 -- it goes on to a candidate, and leaves the roots at which that stands
 module _ (w u : Walk) (s : Settles w) (on : Advances w u) where

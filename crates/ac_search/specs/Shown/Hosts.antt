@@ -5,7 +5,7 @@ use Rattle.ac_rules.specs.Pages.{candidates}
 use Rattle.ac_prune.specs.Marks.{stand_at}
 use Rattle.ac_prune.specs.Fitting.{fits_at}
 use Rattle.ac_search.specs.Hosts.{is_looked_at, standing}
-use Rattle.ac_search.specs.Shown.Walk.{cloud_in, query_in, roots_in, left_of}
+use Rattle.ac_search.specs.Shown.Walk.{cloud_in, query_in, roots_in, left_of, may_stop}
 use Rattle.ac_search.specs.declared.walk.Walk.{Walk}
 
 -- Left are the candidates that stand at a root that it looks at. It looks at roots that the query takes; those that it doesn't look at fit.
@@ -21,6 +21,7 @@ pub record Leaves (old new : Walk) : Type 0 where
   pub cloud : cloud_in new ≡ cloud_in old
   pub query : query_in new ≡ query_in old
   pub path : new.path.items ≡ old.path.items
+  pub stops : may_stop new → may_stop old
   pub left : left_of new ≡ standing (cloud_in old) (roots_in new) (left_of old)
   pub roots : (r : ℕ) → r < length (cloud_in old) → is_looked_at (roots_in new) r ≡ (is_looked_at (roots_in old) r && not (stand_at (cloud_in old) old.path.items r))
 
@@ -29,6 +30,7 @@ pub record Stays (old new : Walk) : Type 0 where
   pub cloud : cloud_in new ≡ cloud_in old
   pub query : query_in new ≡ query_in old
   pub roots : roots_in new ≡ roots_in old
+  pub stops : may_stop new → may_stop old
   pub left : left_of new ≡ left_of old
 
 -- Of the roots that the query takes, those fit that it doesn't look at.

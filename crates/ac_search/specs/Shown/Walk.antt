@@ -1,5 +1,5 @@
 -- What a walk searches, where it stands, and what it has left.
-use Rattle.std.specs.Prelude.{◌≡◌, ℕ, Bool, ◌+◌, ◌*◌, ◌≤◌, ◌==◌, min, if◌then◌else◌, List, [], ◌∷◌, length, take, slice_index, Option, Some, None, IsSome, IfSome}
+use Rattle.std.specs.Prelude.{◌≡◌, ℕ, Bool, false, not, nat_lt, ◌+◌, ◌*◌, ◌<◌, ◌≤◌, ◌==◌, min, if◌then◌else◌, List, [], ◌∷◌, length, take, slice_index, Option, Some, None, IsSome, IfSome}
 use Rattle.std.specs.Option.{option_map}
 use Rattle.ac_base.specs.Devices.{last_count, Rises}
 use Rattle.ac_query.specs.Asked.{Asked}
@@ -28,6 +28,15 @@ token_in w = option_map (λ ids. ids.items) w.after
 abbrev pub probes_in : Walk → ℕ
 probes_in w = w.probes
 
+-- the most tries that it may make; none where it may make as many as it takes
+abbrev pub most_in : Walk → Option ℕ
+most_in w = w.most
+
+-- it has made as many tries as it may
+abbrev pub is_spent : Option ℕ → ℕ → Bool
+is_spent None n = false
+is_spent (Some most) n = not (nat_lt n most)
+
 -- the list that it gave last, which is still its path; none where it has tried nothing yet
 abbrev pub given_in : Walk → Option (List ℕ)
 given_in w = if w.probes == 0 then None else Some w.path.items
@@ -47,22 +56,37 @@ changed (Some x) y = differing x y
 abbrev pub roots_in : Walk → Option (List Bool)
 roots_in w = option_map (λ marks. marks.items) w.roots
 
--- it is of the same cloud, query, token and roots
+-- A search behind some ids may stop before its end: it may make fewer tries than there are providers, for each open list behind them.
+abbrev pub MayStop : Option ℕ → List Provider → Asked → Option (List ℕ) → Type 0
+MayStop None all asked ids = ⊥
+MayStop (Some most) all asked ids = most < length all * length (open_between all asked ids None)
+
+abbrev pub may_stop : Walk → Type 0
+may_stop w = MayStop (most_in w) (cloud_in w) (query_in w) (token_in w)
+
+-- its count of tries doesn't go past the most that it may make
+abbrev pub StaysWithin : Walk → Walk → Type 0
+StaysWithin old new = IfSome (most_in old) (λ most. old.probes ≤ most → new.probes ≤ most)
+
+-- it is of the same cloud, query, token and roots, and may make as many tries
 pub record IsSame (old new : Walk) : Type 0 where
   pub cloud : new.ledger.cloud ≡ old.ledger.cloud
   pub query : new.ledger.query ≡ old.ledger.query
   pub after : new.after ≡ old.after
   pub least : new.least.items ≡ old.least.items
   pub roots : new.roots ≡ old.roots
+  pub most : new.most ≡ old.most
 
 -- What a call of `next` does besides: it has made at most as many tries as there are providers, for each open list between its token and
--- the list that it gave, or the end. Where it gave a list it has made a try, and one for each slot from the first on that differs from the
--- list before it, unless their count stands at its end.
+-- the list that it gave, or the end, and no more than it may. Where it gave a list it has made a try, and one for each slot from the first on that differs from
+-- the list before it, unless their count stands at its end.
 pub record Tries (old : Walk) (given : Option (List ℕ)) (new : Walk) : Type 0 where
   pub cloud : cloud_in new ≡ cloud_in old
   pub query : query_in new ≡ query_in old
   pub token : token_in new ≡ token_in old
   pub bounded : probes_in new ≤ length (cloud_in old) * length (open_between (cloud_in old) (query_in old) (token_in old) given)
+  pub most : most_in new ≡ most_in old
+  pub within : StaysWithin old new
   pub kept : probes_in old ≤ probes_in new
   pub rises : IsSome given → Rises (probes_in old) (probes_in new)
   pub last : IfSome given (λ y. given_in new ≡ Some y)

@@ -10,7 +10,7 @@ use super::steps::one_more;
 use ac_prune::{Front, LookAhead, bound_by};
 
 impl<'a> Walk<'a> {
-    ghost use Rattle.ac_search.specs.Shown.Walk.{search_in, path_in, place_in, slot_in, front_in};
+    ghost use Rattle.ac_search.specs.Shown.Walk.{search_in, path_in, place_in, slot_in, front_in, StaysWithin};
     ghost use Rattle.ac_search.specs.Search.Steps.{Passes};
 
     // Where it stands, by the provider of its path to whose trees it is bound.
@@ -90,13 +90,17 @@ impl<'a> Walk<'a> {
         self.skip(tries);
     }
 
-    // Goes on to the next choice that may follow, or to the end of the slot, and counts each choice that it passes over.
+    // Goes on to the next choice that may follow, or to the end of the slot, and counts each choice that it passes over, while it may.
     pub(super) fn pass(&mut self)
-        ensures { Passes self.old self.new }
+        ensures passes { Passes self.old self.new }
+        ensures within { StaysWithin self.old self.new }
     {
         let bound = bound_by(self.ledger.cloud, &self.path[..self.depth]);
         'choices: loop {
             if !self.go_beside(bound) {
+                return;
+            }
+            if self.is_spent() {
                 return;
             }
             self.pass_over();

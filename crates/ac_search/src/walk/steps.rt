@@ -19,7 +19,7 @@ use ac_query::Query;
 use ac_rules::Assignment;
 
 impl<'a> Walk<'a> {
-    ghost use Rattle.ac_search.specs.Shown.Walk.{cloud_in, roots_in, search_in, place_in, slot_in, path_in, front_in, left_of, IsSame};
+    ghost use Rattle.ac_search.specs.Shown.Walk.{cloud_in, roots_in, search_in, place_in, slot_in, path_in, front_in, left_of, may_stop, IsSame};
     ghost use Rattle.ac_search.specs.Search.Steps.{Backs, IsNext, Goes, Skips, StepGives};
 
     // The next provider to try, where the slot has one more.
@@ -188,7 +188,8 @@ impl<'a> Walk<'a> {
 
     // Goes up until its path no longer begins with a front.
     pub(super) fn leave_front(&mut self, front: &[u32])
-        ensures { PassesOver front.now (left_of self.old) (left_of self.new) }
+        ensures passes { PassesOver front.now (left_of self.old) (left_of self.new) }
+        ensures stops { may_stop self.new → may_stop self.old }
     {
         'back: while self.is_behind(front) {
             self.take_back();

@@ -5,7 +5,7 @@ use crate::clouds::{NONE, PAIR, Rows, Scene, scene_of};
 use ac_base::NoMemory;
 use ac_find::{SlotCounts, TreeCounts, all_slots, tree_counts};
 use ac_rules::{Plain, Source};
-use ac_search::{Walk, fitting_roots};
+use ac_search::{SearchFault, Walk, fitting_roots};
 use std::alloc::{AllocError, Global};
 use std::process::Abort;
 
@@ -18,11 +18,11 @@ fn given(alloc: Global) -> Result<Option<Scene>, AllocError> {
 fn gives_both<S: Source>(rt: &impl Abort, source: &mut S) {
     for want in [[0u32, 1], [1, 0]] {
         match source.next() {
-            Some(list) => assert!(rt; list == want.as_slice(), "the next list"),
-            None => assert!(rt; false, "a list is left"),
+            Ok(Some(list)) => assert!(rt; list == want.as_slice(), "the next list"),
+            Ok(None) | Err(_) => assert!(rt; false, "a list is left"),
         }
     }
-    assert!(rt; source.next().is_none(), "the end");
+    assert!(rt; source.next().is_ok_and(|list| list.is_none()), "the end");
 }
 
 // One provider, whose disk is used up.
@@ -114,9 +114,9 @@ fn hosts(rt: HostRuntime) {
         return;
     };
     // Both slots fit 01 and 02, which are one tree.
-    match fitting_roots(rt.alloc(), &scene.cloud, &scene.query) {
+    match fitting_roots(rt.alloc(), &scene.cloud, &scene.query, None) {
         Ok(fits) => assert_eq!(rt; fits.iter().filter(|fit| **fit).count(), 1),
-        Err(fault) => assert_eq!(rt; fault, NoMemory),
+        Err(fault) => assert_eq!(rt; fault, SearchFault::NoMemory),
     }
 }
 

@@ -80,7 +80,7 @@ fn scene_of_many(
 fn counted(alloc: Global, walk: &mut Walk, most: u32) -> Result<Vec<u64>, AllocError> {
     let mut counts = Vec::new(alloc);
     for _ in 0..most {
-        let ended = walk.next().is_none();
+        let ended = walk.next().is_ok_and(|list| list.is_none());
         counts.push(walk.probes())?;
         if ended {
             return Ok(counts);
@@ -459,6 +459,52 @@ fn is_met(alloc: Global, case: &Case) -> Result<bool, AllocError> {
 fn are_met(rt: &(impl Abort + AllocGlobal), cases: &[Case]) -> Result<(), AllocError> {
     for case in cases {
         assert!(rt; is_met(rt.alloc(), case)?, "{}", case.0);
+    }
+    Ok(())
+}
+
+// How many lists are left of a source that doesn't stop, of so many at most.
+fn left_of<S: Source>(source: &mut S, most: u32) -> u32 {
+    for count in 0..most {
+        if !source.next().is_ok_and(|list| list.is_some()) {
+            return count;
+        }
+    }
+    most
+}
+
+// How many lists a walk of so many tries gives, whether it stops then, and how many it still gives without that bound.
+fn given_within(alloc: Global, scene: &Scene, tries: u64) -> Option<(u32, bool, u32)> {
+    let Ok(walk) = Walk::new(alloc, &scene.cloud, &scene.query, None) else {
+        return None;
+    };
+    let mut walk = walk.within(Some(tries));
+    let given = left_of(&mut walk, 10);
+    let stopped = walk.next().is_err();
+    let mut walk = walk.within(None);
+    Some((given, stopped, left_of(&mut walk, 10)))
+}
+
+// The second list is found with the fifth try, and with the sixth that there is no other.
+#[test]
+fn stops_with_its_last_try(rt: HostRuntime) -> Result<(), Fail> {
+    let alloc = rt.alloc();
+    let Some(scene) = scene_of_many(alloc, &PAIR, FIVES, None)? else {
+        assert!(rt; false, "the query is accepted");
+        return Ok(());
+    };
+    let wanted = [
+        (0, true, 2),
+        (0, true, 2),
+        (0, true, 2),
+        (1, true, 1),
+        (1, true, 1),
+        (2, true, 0),
+        (2, false, 0),
+    ];
+    for (tries, want) in wanted.iter().enumerate() {
+        let given = given_within(alloc, &scene, tries as u64);
+        assert!(rt; given == Some(*want), "with {tries} tries");
     }
     Ok(())
 }

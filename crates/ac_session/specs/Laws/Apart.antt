@@ -1,5 +1,5 @@
 -- Answers are read apart: each up to the first line that begins with `=`.
-use Rattle.std.specs.Prelude.{◌≡◌, ◌≢◌, ℕ, zero, suc, ◌==◌, Bool, false, true, List, [], ◌∷◌, ◌++◌, drop, length, if◌then◌else◌}
+use Rattle.std.specs.Prelude.{◌≡◌, ◌≢◌, ℕ, zero, suc, ◌==◌, Bool, false, true, List, [], ◌∷◌, ◌++◌, drop, length, if◌then◌else◌, Option}
 use Rattle.std.specs.List.{flat_map, slice_split}
 use Rattle.ac_cloud.specs.World.{World}
 use Rattle.ac_query.specs.declared.version.Version.{Version}
@@ -8,6 +8,7 @@ use Rattle.ac_session.specs.Escapes.{plain}
 use Rattle.ac_session.specs.Frames.{begins_line, last_newline, lines_written}
 use Rattle.ac_session.specs.Lines.{Given, is_newline, newline}
 use Rattle.ac_session.specs.Questions.{Text}
+use Rattle.ac_session.specs.Tries.{text_with, turn_at}
 use Rattle.ac_session.specs.Turns.{session_text, text_of, turn_of}
 
 -- ---- how a driver reads
@@ -58,3 +59,17 @@ answers_of version world (given ∷ others) =
 abbrev pub SessionsApart : Type 0
 SessionsApart = (version : Version) (world : World) (lines : List Given)
     → answers_read (length (answers_of version world lines)) (session_text version world lines) ≡ answers_of version world lines
+
+-- the same, where the searches of some lines stopped
+abbrev pub answers_with : Version → World → List (Option (List ℕ)) → List Given → List Text
+answers_with version world [] lines = answers_of version world lines
+answers_with version world (stop ∷ stops) [] = []
+answers_with version world (stop ∷ stops) (given ∷ others) =
+    let turn = turn_at version world stop given in
+    let later = answers_with version turn.world stops others in
+    if is_empty (text_of turn) then later else text_of turn ∷ later
+
+-- So does who reads one in which searches stopped.
+abbrev pub StoppedApart : Type 0
+StoppedApart = (version : Version) (world : World) (stops : List (Option (List ℕ))) (lines : List Given)
+    → answers_read (length (answers_with version world stops lines)) (text_with version world stops lines) ≡ answers_with version world stops lines

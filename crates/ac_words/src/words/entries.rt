@@ -2,12 +2,13 @@
 ghost use Rattle.std.specs.Prelude.{◌≡◌, ◌∷◌, IfErr, IfOk, OnOk, Some, [], option_map, true};
 ghost use Rattle.ac_run.specs.Tasks.{command_shown};
 ghost use Rattle.clap.specs.Words.{first_of, found_of, rows_of, subcommand_rows_of};
-ghost use Rattle.ac_words.specs.Words.{IsMadeOf, Says, Tells, asking, call_of, call_shown, command_found, is_complete, is_set, own_faults, version_kinds, version_named, version_of};
+ghost use Rattle.ac_words.specs.Words.{IsMadeOf, Says, Tells, asking, call_of, call_shown, command_found, is_complete, is_set, own_faults, tries_kinds, tries_named, tries_of, version_kinds, version_named, version_of};
 
 use super::tables::paths;
 use super::{Call, WordFault, Words, fault_of, grammar};
 use crate::mark::past_mark;
 use crate::name::Name;
+use ac_base::read_count;
 use ac_query::Version;
 use ac_run::Command;
 use clap::ArgMatches;
@@ -111,6 +112,35 @@ fn version(alloc: Global, name: Name, entries: &ArgMatches<'_>) -> Result<Versio
     }
 }
 
+// How many tries a text says; without it, no number is set.
+fn tries_named(text: Option<&str>) -> Option<Option<u64>>
+    ensures { result ≡ tries_named (option_map (λ t. t.now) text.entry) }
+{
+    match text {
+        None => Some(None),
+        Some(text) => Some(Some(u64::from(read_count(text.as_bytes())?))),
+    }
+}
+
+// How many tries a search may make.
+fn tries(alloc: Global, name: Name, entries: &ArgMatches<'_>) -> Result<Option<u64>, WordFault>
+    ensures tries { IfOk result (λ n. tries_of (rows_of (found_of entries.now)) ≡ Some n) }
+    ensures fault { IfErr result (Tells (tries_kinds
+        (tries_of (rows_of (found_of entries.now))))) }
+{
+    let text = entry(entries, "tries");
+    match tries_named(text) {
+        Some(tries) => Ok(tries),
+        None => {
+            let text = text.unwrap_or("");
+            let message = format!(in alloc;
+                "invalid value '{text}' for '--tries <N>': it is a count of at most 2147483647"
+            )?;
+            Err(refusal(alloc, name, ErrorKind::InvalidValue, message.as_str())?)
+        }
+    }
+}
+
 // The command that was found, and its entries.
 fn find_command<'m, 'a>(matches: &'m ArgMatches<'a>) -> Option<(Name, &'m ArgMatches<'a>)>
     ensures { option_map (λ found. (found.0, rows_of (found_of found.1.now))) result
@@ -135,11 +165,13 @@ fn words_with<'a>(
         (Some (name, rows_of (found_of entries.now))))) }
 {
     let version = version(alloc, name, entries)?;
+    let tries = tries(alloc, name, entries)?;
     let paths = paths(alloc, name, entries)?;
     let detail = is_set(entries, "detail");
     Ok(Words {
         call,
         version,
+        tries,
         detail,
         paths,
     })

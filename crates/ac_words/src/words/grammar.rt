@@ -2,7 +2,7 @@
 ghost use Rattle.std.specs.Prelude.{◌≡◌, IfOk, false};
 ghost use Rattle.clap.specs.Words.{app_of, rule_of};
 ghost use Rattle.clap.specs.declared.builder.command.Command.TheViews.{out-Command as fields_of};
-ghost use Rattle.ac_words.specs.Words.{app_for, candidates_app, check_app, explain_app, fill_app, flag_rule, hosts_app, list_app, option_rule, program, query_app, search_app, session_app, shown_app, tokens_app, verify_app, why_app, with_common, with_options, with_tables, word_rule};
+ghost use Rattle.ac_words.specs.Words.{app_for, candidates_app, check_app, explain_app, fill_app, flag_rule, hosts_app, list_app, option_rule, program, query_app, search_app, session_app, shown_app, tokens_app, verify_app, why_app, with_common, with_options, with_tables, with_tries, word_rule};
 
 use super::help;
 use crate::name::Name;
@@ -123,6 +123,23 @@ fn add_options<'a>(alloc: Global, command: Command<'a>) -> Result<Command<'a>, A
     Ok(command)
 }
 
+// Adds the options of a command that searches: those of a command with queries, and how many tries a search may make.
+fn add_tries<'a>(alloc: Global, command: Command<'a>) -> Result<Command<'a>, AllocError>
+    ensures app { IfOk result (λ c. app_of c ≡ with_tries (app_of command.entry)) }
+    ensures local { (fields_of command.entry).has_globals ≡ false
+        → IfOk result (λ c. (fields_of c).has_globals ≡ false) }
+{
+    let command = add_options(alloc, command)?;
+    let command = command.arg(option(
+        alloc,
+        "tries",
+        "N",
+        "Lets each search make at most N tries of a provider in a slot, and then ends with status 8: \
+         what is written up to there is a first part of the answer [default: as many as it takes]",
+    ))?;
+    Ok(command)
+}
+
 // A command with a query.
 fn with_query<'a>(
     alloc: Global,
@@ -172,7 +189,7 @@ fn search<'a>(
     ensures app { IfOk result (λ c. app_of c ≡ search_app name.entry.now) }
     ensures local { IfOk result (λ c. (fields_of c).has_globals ≡ false) }
 {
-    let command = add_options(alloc, with_query(alloc, name, about, usage, below)?)?;
+    let command = add_tries(alloc, with_query(alloc, name, about, usage, below)?)?;
     command.arg(option(
         alloc,
         "after",
@@ -254,7 +271,7 @@ fn fill<'a>(alloc: Global) -> Result<Command<'a>, AllocError>
          ac_cli fill [OPTIONS] --providers <FILE> --inventories <FILE> <QUERY>",
         help::FILL,
     )?;
-    let command = add_options(alloc, command)?;
+    let command = add_tries(alloc, command)?;
     command.arg(flag(
         alloc,
         "sum",
@@ -295,7 +312,7 @@ fn explain<'a>(alloc: Global) -> Result<Command<'a>, AllocError>
          ac_cli explain [OPTIONS] --providers <FILE> --inventories <FILE> <QUERY>",
         help::EXPLAIN,
     )?;
-    add_options(alloc, command)
+    add_tries(alloc, command)
 }
 
 fn hosts<'a>(alloc: Global) -> Result<Command<'a>, AllocError>
@@ -310,7 +327,7 @@ fn hosts<'a>(alloc: Global) -> Result<Command<'a>, AllocError>
          ac_cli hosts [OPTIONS] --providers <FILE> --inventories <FILE> <QUERY>",
         help::HOSTS,
     )?;
-    add_options(alloc, command)
+    add_tries(alloc, command)
 }
 
 fn why<'a>(alloc: Global) -> Result<Command<'a>, AllocError>
@@ -331,7 +348,7 @@ fn why<'a>(alloc: Global) -> Result<Command<'a>, AllocError>
         "HOST",
         "A provider of the host: its UUID, or a name that no other provider has",
     ))?;
-    add_options(alloc, command)
+    add_tries(alloc, command)
 }
 
 fn session<'a>(alloc: Global) -> Result<Command<'a>, AllocError>
@@ -347,7 +364,7 @@ fn session<'a>(alloc: Global) -> Result<Command<'a>, AllocError>
              ac_cli session [OPTIONS] --providers <FILE> --inventories <FILE>",
         )
         .after_help(help::SESSION);
-    add_options(alloc, command)
+    add_tries(alloc, command)
 }
 
 // A command by itself.

@@ -20,6 +20,6 @@ returns-in-None g c =
       from = c.in-Ok.inputs;
       to = c.held.new.inputs;
       files = rw (← c.paths-paths.ensures) c.in-Ok.ensures.files;
-      ran = held_call _ _ _ _ c.args.words.now c.in-Ok.inputs c.held.new.inputs c.args.questions _ _ _ _
-          (c.in-None.ensures ∙ ap (task_in c.args.words.now) c.detail_of-detail.ensures) c.detail_of-detail.ensures c.version.ensures c.held.ensures;
+      ran = held_call _ _ _ _ c.args.words.now c.in-Ok.inputs c.held.new.inputs c.args.questions _ _ _ _ _
+          (c.in-None.ensures ∙ ap (task_in c.args.words.now) c.detail_of-detail.ensures) c.detail_of-detail.ensures c.version.ensures c.tries.ensures c.held.ensures;
     })

@@ -7,7 +7,7 @@ use Rattle.ac_cli.proofs.program.ran.Goals as goal
 
 pub returns-in_default : goal.returns-in_default
 returns-in_default g c =
-    none_ran g.F.Feed.remaining c.args.inputs.now _ _ (c.tell.ensures.status ∙ c.of.ensures.status) (rw (← c.of.ensures.line) c.tell.ensures.line) refl c.tell.ensures.failures _ _
+    none_ran g.F.Feed.remaining c.args.inputs.now _ _ (c.tell.ensures.status ∙ c.of.ensures.status) (rw (← c.of.ensures.line) c.tell.ensures.line) refl c.tell.ensures.failures _ _ _
 
 pub returns-then-status-gt1 : goal.returns-then-status-gt1
 returns-then-status-gt1 g c =
@@ -20,7 +20,27 @@ returns-then-status-gt1 g c =
       untouched = λ low high. rw (c.into_inner.ensures.below ∙ ap sink_below (said.same low high) ∙ c.new-gathering.ensures.below) (Keeps-refl _);
       output = λ six. (same_rise _ _ _ _ c.new-gathering.ensures.failures (sym c.into_inner.ensures.failures) (said.output six).0, (said.output six).1);
       memory = said.memory;
+      tries = said.tries;
+      stopped = said.stopped;
       part = λ high b tell. part_more (g.W.Sink.taken c.args.out) _ _ (g.W.Sink.taken c.into_inner.result) _ c.new-gathering.ensures.taken (said.part high b tell) c.into_inner.ensures.part;
+      status = said.status;
+      failures = said.err_failures;
+    }
+
+pub returns-then-status-eq8 : goal.returns-then-status-eq8
+returns-then-status-eq8 g c =
+    let said = c.run-status.ensures in
+    record {
+      written = λ small. absurd (omega arith);
+      tables = λ three. absurd (omega arith);
+      query = λ four. absurd (omega arith);
+      token = λ five. absurd (omega arith);
+      untouched = λ low high. absurd (omega arith);
+      output = λ six. absurd (omega arith);
+      memory = λ seven. absurd (omega arith);
+      tries = said.tries;
+      stopped = said.stopped;
+      part = λ high b tell. part_more (g.W.Sink.taken c.args.out) _ _ (g.W.Sink.taken c.finish-out.result.1) _ c.new-gathering.ensures.taken (said.part high b tell) c.finish-out.ensures.part;
       status = said.status;
       failures = said.err_failures;
     }
@@ -41,6 +61,8 @@ returns-in-Ok-default g c =
       untouched = λ low high. absurd (omega arith);
       output = λ six. absurd (omega arith);
       memory = λ seven. absurd (omega arith);
+      tries = λ eight. absurd (omega arith);
+      stopped = λ eight. absurd (omega arith);
       part = λ late. absurd (omega arith);
       status = said.status;
       failures = said.err_failures;
@@ -62,6 +84,8 @@ returns-in-Err-default g c =
         rw (← c.of-in-Err-default.ensures.line, ← said.silent (omega arith)) c.tell-in-Err-default.ensures.line,
       );
       memory = λ seven. absurd (cc);
+      tries = λ eight. absurd (cc);
+      stopped = λ eight. absurd (cc);
       part = λ late b tell. text_more (g.W.Sink.taken c.args.out) _ _ (g.W.Sink.taken c.finish.result.1) _ c.new-gathering.ensures.taken (said.written (omega arith) b tell).output c.finish.ensures.part;
       status = rw six (5, omega arith, refl);
       failures = omega (arith, said.err_failures, c.tell-in-Err-default.ensures.failures);

@@ -1,15 +1,17 @@
 use Rattle.std.proofs.Common.{◌≡◌, ◌∙◌, ◌∷◌, ℕ, List, Option, Some, true, false, length, sym, ap, subst, refl, arith}
+use Rattle.std.specs.Result.{result_from_control_flow}
+use Rattle.std.proofs.lemmas.Result.{err_from_is_err_and}
 use Rattle.ac_cloud.specs.Cloud.CloudWorld.{providers_of}
 use Rattle.ac_cloud.specs.World.{Provider}
 use Rattle.ac_query.specs.Asked.{Asked, slots_of}
 use Rattle.ac_query.specs.Shown.Queries.{asked_of}
-use Rattle.ac_report.proofs.Pages.Paging.{all_head, all_tail, is_next}
+use Rattle.ac_report.proofs.Pages.Paging.{all_head, all_tail, is_next, tail_given}
 use Rattle.ac_rules.specs.Judge.{is_candidate}
 use Rattle.ac_rules.specs.Lists.{IsListBelow, tail_of}
 use Rattle.ac_rules.specs.Placed.{assigned}
 use Rattle.ac_rules.specs.Together.{sums}
 use Rattle.ac_rules.proofs.Lists.RestLemmas.{IsChosen}
-use Rattle.ac_fill.specs.Ends.{AreAhead, LeadsTo, stand_of, start_of, takings_of, world_at}
+use Rattle.ac_fill.specs.Ends.{AreAhead, LeadsTo, Stand, stand_of, start_of, takings_of, world_at}
 use Rattle.ac_fill.specs.Filled.{asks_units}
 use Rattle.ac_fill.specs.Shown.{asked_in, with_taken}
 use Rattle.ac_fill.proofs.Again.{is_counted, leads_on}
@@ -20,16 +22,16 @@ pub lists-init : goal.lists-init
 lists-init g c =
     let all = providers_of c.args.cloud.now in
     let asked = asked_of c.args.query.now in
-    let nothing : with_taken c.in_ok-takings.takings all ≡ all = c.in_ok-takings.ensures.nothing in
+    let left = g.S.Source.left c.args.source.now in
+    let stand = c.in_ok-filling.ensures.stand in
     record {
-      query = c.in_ok-takings.ensures.query;
-      fits = c.in_ok-takings.ensures.fits;
-      chosen = chosen_whole all asked (g.S.Source.left c.args.source.now) c.requires.whole;
-      ahead = λ _. subst (λ (w : List Provider). AreAhead w asked (g.S.Source.left c.args.source.now)) (sym nothing) (ahead_whole all asked (g.S.Source.left c.args.source.now) c.requires.whole);
-      small = omega arith;
-      leads = subst (LeadsTo asked (start_of all asked))
-          (ap (λ (l : Option ℕ). record { wanted = l; world = all; count = 0 }) (sym c.limit.ensures) ∙ ap (λ (w : List Provider). record { wanted = c.limit.result; world = w; count = 0 }) (sym nothing))
-          (record { count = refl; world = refl });
+      query = c.in_ok-filling.ensures.query;
+      fits = c.in_ok-filling.ensures.fits;
+      chosen = chosen_whole all asked left c.requires.whole;
+      ahead = λ _. subst (λ (s : Stand). AreAhead s.world asked left) (sym stand) (ahead_whole all asked left c.requires.whole);
+      small = omega (arith, ap (λ (s : Stand). s.count) stand);
+      stops = λ may. may;
+      leads = subst (LeadsTo asked (start_of all asked)) (sym stand) (record { count = refl; world = refl });
     }
 
 pub returns-in-None : goal.returns-in-None
@@ -37,21 +39,21 @@ returns-in-None g c =
     let all = providers_of c.args.cloud.now in
     let asked = asked_of c.args.query.now in
     let s = stand_of all c.lists.filling in
-    let none = ahead_none s.world asked (g.S.Source.left c.lists.source) c.in-None.ensures.head (c.lists.invariant.ahead (λ e. let over = c.is_over.ensures.1 e in cc)) in
+    let none = ahead_none s.world asked (g.S.Source.left c.lists.source) (rw c.in-None.is at c.in_ok-next.ensures.head) (c.lists.invariant.ahead (λ e. let over = c.is_over.ensures.1 e in cc)) in
     let done = is_counted all asked s c.lists.filling.filled c.lists.invariant.leads (filled_none s.wanted s.world asked none) refl c.lists.invariant.small refl in
-    record { count = done.count; world = done.world; fits = c.lists.invariant.fits }
+    record { count = done.count; world = done.world; fits = c.lists.invariant.fits; stopped = λ e. absurd (cc) }
 
 pub invariant_of-assignment : goal.invariant_of-assignment
 invariant_of-assignment g c =
     let asked = asked_of c.args.query.now in
-    let chosen = all_head (IsChosen (providers_of c.args.cloud.now) asked) (g.S.Source.left c.lists.source) c.in-Some.list.now c.in-Some.ensures.head c.lists.invariant.chosen in
+    let chosen = all_head (IsChosen (providers_of c.args.cloud.now) asked) (g.S.Source.left c.lists.source) c.in-Some.list.now (rw c.in-Some.is at c.in_ok-next.ensures.head) c.lists.invariant.chosen in
     record { slots = omega (arith, chosen.list.long); providers = chosen.list.below }
 
 pub count_list-requires : goal.count_list-requires
 count_list-requires g c =
     let all = providers_of c.args.cloud.now in
     let asked = asked_of c.args.query.now in
-    let chosen = all_head (IsChosen all asked) (g.S.Source.left c.lists.source) c.in-Some.list.now c.in-Some.ensures.head c.lists.invariant.chosen in
+    let chosen = all_head (IsChosen all asked) (g.S.Source.left c.lists.source) c.in-Some.list.now (rw c.in-Some.is at c.in_ok-next.ensures.head) c.lists.invariant.chosen in
     let back : asked ≡ asked_in (takings_of c.lists.filling) = sym c.lists.invariant.query in
     record {
       query = back;
@@ -69,20 +71,21 @@ lists-preserved g c =
     let left = g.S.Source.left in
     let x = c.in-Some.list.now in
     let wants : c.lists.filling.wanted ≡ Some 0 → ⊥ = λ e. let over = c.is_over.ensures.1 e in cc in
-    let next = is_next c.lists.filling.wanted (left c.lists.source) x wants c.in-Some.ensures.head in
-    let tail : left c.next.follows.lender-at-none ≡ tail_of (left c.lists.source) = c.next.follows.holds-at-none.0 in
+    let next = is_next c.lists.filling.wanted (left c.lists.source) x wants (rw c.in-Some.is at c.in_ok-next.ensures.head) in
+    let tail : left c.next.follows.lender-at-none ≡ tail_of (left c.lists.source) = tail_given result_from_control_flow (g.S.Source.left c.lists.source) c.branch-next.ensures c.in_ok-next.is refl c.next.follows.holds-at-none.0 in
     let ahead : AreAhead (world_at all c.lists.filling) asked (x ∷ tail_of (left c.lists.source)) = subst (AreAhead (world_at all c.lists.filling) asked) next.first (c.lists.invariant.ahead wants) in
     let counted = rw c.lists.invariant.query at c.in_ok-count_list-in-Some.ensures.counts (tail_of (left c.lists.source)) in
     let counts = counted ahead in
     let after = c.count_list.new.self in
     let query : asked_in (takings_of after) ≡ asked = c.in_ok-count_list-in-Some.ensures.query ∙ c.lists.invariant.query in
-    let passes = rw c.deref.ensures.value at (rw tail at c.skip.ensures) in
+    let passes = rw c.deref.ensures.value at (rw tail at c.skip.ensures.passes) in
     record {
       query = query;
       fits = c.in_ok-count_list-in-Some.ensures.fits;
       chosen = chosen_behind (IsChosen all asked) _ _ _ passes (all_tail (IsChosen all asked) (left c.lists.source) c.lists.invariant.chosen);
       ahead = λ more. ahead_front (world_at all after) asked _ _ _ (subst (λ (a : Asked). sums (world_at all after) (assigned a after.full.items) ≡ false) query (c.in_ok-count_list-in-Some.ensures.full more)) passes (counts.ahead more);
       small = c.in_ok-count_list-in-Some.ensures.small;
+      stops = λ may. c.lists.invariant.stops (c.next.follows.holds-at-none.1 (c.skip.ensures.stops may));
       leads = leads_on asked (start_of all asked) (stand_of all c.lists.filling) (stand_of all after) c.lists.invariant.leads counts.leads;
     }
 
@@ -92,4 +95,9 @@ returns g c =
     let asked = asked_of c.args.query.now in
     let s = stand_of all c.lists.filling in
     let done = is_counted all asked s c.lists.filling.filled c.lists.invariant.leads (filled_over s.wanted s.world asked (c.is_over.ensures.0 c.lists-test.false)) refl c.lists.invariant.small refl in
-    record { count = done.count; world = done.world; fits = c.lists.invariant.fits }
+    record { count = done.count; world = done.world; fits = c.lists.invariant.fits; stopped = λ e. absurd (cc) }
+
+pub returns-in_err-next : goal.returns-in_err-next
+returns-in_err-next g c =
+    let e = err_from_is_err_and c.from_residual-in_err-next.result c.from_residual-in_err-next.ensures.1 in
+    record { count = rw e.1 tt; world = rw e.1 tt; fits = rw e.1 tt; stopped = λ _. c.lists.invariant.stops c.in_err-next.ensures.stopped }

@@ -13,6 +13,7 @@ use Rattle.ac_report.proofs.lines.write_tokens.Given as goal
 abbrev pub invariant-lists : goal.invariant-lists
 invariant-lists g l =
     let left = g.S.Source.left in
+    let may_stop = g.S.Source.may_stop in
     let taken = g.W.Sink.taken in
     let failures = g.W.Sink.failures in
     let limit = (asked_of l.query).limit in
@@ -21,8 +22,8 @@ invariant-lists g l =
       small : l.count ≤ 4294967295;
       reads : (r : Result ℕ PageFault) (new : List (List ℕ)) → Reads l.wanted l.count r (left l.source) new → Reads limit 0 r (left l.fn.source) new;
       writes : (r : Result ℕ PageFault) (new : g.row.W.Denot)
-          → WritesEach taken failures l.out new r (line (providers_of l.cloud)) (cut l.wanted (left l.source))
-          → WritesEach taken failures l.fn.out new r (line (providers_of l.cloud)) (cut limit (left l.fn.source));
+          → WritesEach taken failures (may_stop l.source) l.out new r (line (providers_of l.cloud)) (cut l.wanted (left l.source))
+          → WritesEach taken failures (may_stop l.fn.source) l.fn.out new r (line (providers_of l.cloud)) (cut limit (left l.fn.source));
     }
 
 abbrev pub decreases-lists : goal.decreases-lists

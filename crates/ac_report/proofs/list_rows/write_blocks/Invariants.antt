@@ -14,6 +14,7 @@ use Rattle.ac_report.proofs.list_rows.write_blocks.Given as goal
 abbrev pub invariant-lists : goal.invariant-lists
 invariant-lists g l =
     let left = g.S.Source.left in
+    let may_stop = g.S.Source.may_stop in
     let taken = g.W.Sink.taken in
     let failures = g.W.Sink.failures in
     let limit = (asked_of l.query).limit in
@@ -22,8 +23,8 @@ invariant-lists g l =
       small : l.count ≤ 4294967295;
       reads : (r : Result ℕ PageFault) (new : List (List ℕ)) → Reads l.wanted l.count r (left l.source) new → Reads limit 0 r (left l.fn.source) new;
       writes : (r : Result ℕ PageFault) (new : g.row.W.Denot)
-          → WritesEach taken failures l.out new r (λ text. text) (blocks (shown_providers l.traits (providers_of l.cloud)) (asked_of l.query) (next_number l.count) (cut l.wanted (left l.source)))
-          → WritesEach taken failures l.fn.out new r (λ text. text) (blocks (shown_providers l.traits (providers_of l.cloud)) (asked_of l.query) 1 (cut limit (left l.fn.source)));
+          → WritesEach taken failures (may_stop l.source) l.out new r (λ text. text) (blocks (shown_providers l.traits (providers_of l.cloud)) (asked_of l.query) (next_number l.count) (cut l.wanted (left l.source)))
+          → WritesEach taken failures (may_stop l.fn.source) l.fn.out new r (λ text. text) (blocks (shown_providers l.traits (providers_of l.cloud)) (asked_of l.query) 1 (cut limit (left l.fn.source)));
     }
 
 abbrev pub decreases-lists : goal.decreases-lists

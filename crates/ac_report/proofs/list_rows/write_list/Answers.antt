@@ -12,7 +12,7 @@ pub returns-in_err-push_piece-clause-writes : goal.returns-in_err-push_piece-cla
 returns-in_err-push_piece-clause-writes g c =
     let lists = cut (asked_of c.args.query.now).limit (g.S.Source.left c.args.source.now) in
     wrote_told (is_list_text (shown_providers c.args.traits (providers_of c.args.cloud.now)) (asked_of c.args.query.now) lists) refl
-    (stopped (λ t. t) (header_text ∷ []) _ (c.in_err-push_piece.ensures (λ t. t) header_text header_is) c.from_residual.ensures.1)
+    (stopped (λ t. t) (header_text ∷ []) _ (c.in_err-push_piece.ensures (λ t. t) header_text header_is) (λ never. absurd never) c.from_residual.ensures.1)
 
 pub returns-clause-writes : goal.returns-clause-writes
 returns-clause-writes g c =

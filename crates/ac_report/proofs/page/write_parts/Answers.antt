@@ -11,7 +11,7 @@ use Rattle.ac_report.proofs.page.write_parts.Goals as goal
 pub returns-in_err-push_piece-clause-writes : goal.returns-in_err-push_piece-clause-writes
 unfolding head_text
 returns-in_err-push_piece-clause-writes g c =
-    stopped (λ t. t) (head_text ∷ []) _ (c.in_err-push_piece.ensures (λ t. t) _ refl) c.from_residual.ensures.1
+    stopped (λ t. t) (head_text ∷ []) _ (c.in_err-push_piece.ensures (λ t. t) _ refl) (λ never. absurd never) c.from_residual.ensures.1
 
 pub returns-in_err-count-clause-writes : goal.returns-in_err-count-clause-writes
 unfolding head_text
@@ -20,7 +20,7 @@ returns-in_err-count-clause-writes g c =
     let asked = asked_of c.args.query.now in
     let lists = cut asked.limit (g.S.Source.left c.args.source.now) in
     wrote_on (λ t. t) (head_text ∷ []) (c.in_ok-push_piece.ensures (λ t. t) _ refl)
-    (stopped (λ t. t) (requests all asked false lists) _ c.in_err-count.ensures.writes c.from_residual-in_err-count.ensures.1)
+    (stopped (λ t. t) (requests all asked false lists) _ c.in_err-count.ensures.writes (λ may. may) c.from_residual-in_err-count.ensures.1)
 
 pub returns-in_err-push_piece-2-clause-writes : goal.returns-in_err-push_piece-2-clause-writes
 unfolding head_text middle_text
@@ -30,7 +30,7 @@ returns-in_err-push_piece-2-clause-writes g c =
     let lists = cut asked.limit (g.S.Source.left c.args.source.now) in
     wrote_on (λ t. t) (head_text ∷ []) (c.in_ok-push_piece.ensures (λ t. t) _ refl)
     (wrote_on (λ t. t) (requests all asked false lists) c.in_ok-count.ensures.writes
-    (stopped (λ t. t) (middle_text ∷ []) _ (c.in_err-push_piece-2.ensures (λ t. t) _ refl) c.from_residual-in_err-push_piece-2.ensures.1))
+    (stopped (λ t. t) (middle_text ∷ []) _ (c.in_err-push_piece-2.ensures (λ t. t) _ refl) (λ never. absurd never) c.from_residual-in_err-push_piece-2.ensures.1))
 
 pub returns-in_err-write_summaries-clause-writes : goal.returns-in_err-write_summaries-clause-writes
 unfolding head_text middle_text
@@ -42,7 +42,7 @@ returns-in_err-write_summaries-clause-writes g c =
     (wrote_on (λ t. t) (requests all asked false lists) c.in_ok-count.ensures.writes
     (wrote_on (λ t. t) (middle_text ∷ []) (c.in_ok-push_piece-2.ensures (λ t. t) _ refl)
     (stopped (λ t. t) (summaries (shown_providers c.args.traits all) false (summarized all lists)) _
-    (c.in_err-write_summaries.ensures lists c.in_ok-count.ensures.marks) c.from_residual-in_err-write_summaries.ensures.1)))
+    (c.in_err-write_summaries.ensures lists c.in_ok-count.ensures.marks) (λ never. absurd never) c.from_residual-in_err-write_summaries.ensures.1)))
 
 pub returns-in_err-push_piece-3-clause-writes : goal.returns-in_err-push_piece-3-clause-writes
 unfolding head_text middle_text tail_text
@@ -55,7 +55,7 @@ returns-in_err-push_piece-3-clause-writes g c =
     (wrote_on (λ t. t) (middle_text ∷ []) (c.in_ok-push_piece-2.ensures (λ t. t) _ refl)
     (wrote_on (λ t. t) (summaries (shown_providers c.args.traits all) false (summarized all lists))
     (c.in_ok-write_summaries.ensures lists c.in_ok-count.ensures.marks)
-    (stopped (λ t. t) (tail_text ∷ []) _ (c.in_err-push_piece-3.ensures (λ t. t) _ refl) c.from_residual-in_err-push_piece-3.ensures.1))))
+    (stopped (λ t. t) (tail_text ∷ []) _ (c.in_err-push_piece-3.ensures (λ t. t) _ refl) (λ never. absurd never) c.from_residual-in_err-push_piece-3.ensures.1))))
 
 pub returns-clause-writes : goal.returns-clause-writes
 unfolding head_text middle_text tail_text

@@ -1,4 +1,5 @@
 use Rattle.std.proofs.Common.{◌≡◌, ◌∙◌, ◌||◌, ℕ, List, refl, sym, ap, [], ◌∷◌, ◌++◌, false, get_or, arith}
+use Rattle.std.specs.Result.{result_from_control_flow}
 use Rattle.std.proofs.Math.Bool.{or-false}
 use Rattle.std.specs.List.{list_any}
 use Rattle.serde_json.specs.Written.{comma_if}
@@ -9,19 +10,19 @@ use Rattle.ac_cloud.specs.World.{id_at}
 use Rattle.ac_report.specs.Marks.{requests}
 use Rattle.ac_report.specs.Pages.{IsAssignment}
 use Rattle.ac_report.specs.Texts.{meets_root, request_text}
-use Rattle.ac_report.proofs.Pages.Paging.{all_head, all_tail, cut_end, cut_over, is_next, read_end, read_last, read_on, read_over}
-use Rattle.ac_report.proofs.Pages.Writing.{refused, stopped, wrote_none, wrote_on}
+use Rattle.ac_report.proofs.Pages.Paging.{all_head, all_tail, cut_end, cut_over, is_next, read_end, read_last, read_on, read_over, read_stopped, same_stopped, tail_given}
+use Rattle.ac_report.proofs.Pages.Writing.{halted, may_weaker, refused, stopped, wrote_none, wrote_on}
 use Rattle.ac_report.proofs.Trees.Marking.{marks_step}
 use Rattle.ac_report.proofs.page.write_requests.Goals as goal
 
 pub request_text-requires : goal.request_text-requires
-request_text-requires g c = all_head (IsAssignment (providers_of c.args.cloud.now) (asked_of c.args.query.now)) (g.S.Source.left c.lists.source) c.in-Some.list.now c.in-Some.ensures.head c.lists.invariant.assigned
+request_text-requires g c = all_head (IsAssignment (providers_of c.args.cloud.now) (asked_of c.args.query.now)) (g.S.Source.left c.lists.source) c.in-Some.list.now (rw c.in-Some.is at c.in_ok-next.ensures.head) c.lists.invariant.assigned
 
 pub returns-in-None-clause-reads : goal.returns-in-None-clause-reads
-returns-in-None-clause-reads g c = c.lists.invariant.reads _ _ (read_end _ _ _ _ c.in-None.ensures.head c.next.follows.holds-at-none.0 c.lists.invariant.small)
+returns-in-None-clause-reads g c = c.lists.invariant.reads _ _ (read_end _ _ _ _ (rw c.in-None.is at c.in_ok-next.ensures.head) (tail_given result_from_control_flow (g.S.Source.left c.lists.source) c.branch-next.ensures c.in_ok-next.is refl c.next.follows.holds-at-none.0) c.lists.invariant.small)
 
 pub returns-in-None-clause-writes : goal.returns-in-None-clause-writes
-returns-in-None-clause-writes g c = c.lists.invariant.writes _ _ (wrote_none _ _ _ _ (ap (requests (providers_of c.args.cloud.now) (asked_of c.args.query.now) c.lists.later) (cut_end _ _ c.in-None.ensures.head)))
+returns-in-None-clause-writes g c = c.lists.invariant.writes _ _ (wrote_none _ _ _ _ (ap (requests (providers_of c.args.cloud.now) (asked_of c.args.query.now) c.lists.later) (cut_end _ _ (rw c.in-None.is at c.in_ok-next.ensures.head))))
 
 pub returns-in-None-clause-marks : goal.returns-in-None-clause-marks
 returns-in-None-clause-marks g c =
@@ -29,38 +30,44 @@ returns-in-None-clause-marks g c =
     record {
       long = c.lists.invariant.long;
       at_root = λ r low. sym (c.lists.invariant.marked r low
-          ∙ ap (λ (l : List (List ℕ)). get_or c.lists.marks r false || list_any (meets_root all (id_at all r)) l) (cut_end _ _ c.in-None.ensures.head)
+          ∙ ap (λ (l : List (List ℕ)). get_or c.lists.marks r false || list_any (meets_root all (id_at all r)) l) (cut_end _ _ (rw c.in-None.is at c.in_ok-next.ensures.head))
           ∙ or-false (get_or c.lists.marks r false));
     }
 
+pub returns-in_err-next-clause-reads : goal.returns-in_err-next-clause-reads
+returns-in_err-next-clause-reads g c = c.lists.invariant.reads _ _ (read_stopped _ _ _ _ _ _ c.from_residual.ensures.1 (same_stopped result_from_control_flow (g.S.Source.left c.lists.source) c.branch-next.ensures c.in_err-next.is refl c.next.follows.holds-at-none.0))
+
+pub returns-in_err-next-clause-writes : goal.returns-in_err-next-clause-writes
+returns-in_err-next-clause-writes g c = c.lists.invariant.writes _ _ (halted _ _ _ _ _ c.from_residual.ensures.1 c.in_err-next.ensures.stopped)
+
 pub returns-in_err-text-in-Some-clause-reads : goal.returns-in_err-text-in-Some-clause-reads
 returns-in_err-text-in-Some-clause-reads g c =
-    let next = is_next c.lists.wanted (g.S.Source.left c.lists.source) c.in-Some.list.now (λ e. let over = c.is_over.ensures.1 e in cc) c.in-Some.ensures.head in
-    c.lists.invariant.reads _ _ (read_last _ _ _ _ _ next c.next.follows.holds-at-none.0 _ _ c.from_residual.ensures.1)
+    let next = is_next c.lists.wanted (g.S.Source.left c.lists.source) c.in-Some.list.now (λ e. let over = c.is_over.ensures.1 e in cc) (rw c.in-Some.is at c.in_ok-next.ensures.head) in
+    c.lists.invariant.reads _ _ (read_last _ _ _ _ _ next (tail_given result_from_control_flow (g.S.Source.left c.lists.source) c.branch-next.ensures c.in_ok-next.is refl c.next.follows.holds-at-none.0) _ _ c.from_residual-in_err-text-in-Some.ensures.1)
 
 pub returns-in_err-text-in-Some-clause-writes : goal.returns-in_err-text-in-Some-clause-writes
-returns-in_err-text-in-Some-clause-writes g c = c.lists.invariant.writes _ _ (refused _ _ _ _ _ c.from_residual.ensures.1)
+returns-in_err-text-in-Some-clause-writes g c = c.lists.invariant.writes _ _ (refused _ _ _ _ _ c.from_residual-in_err-text-in-Some.ensures.1)
 
 pub returns-in_err-push_listed-clause-reads : goal.returns-in_err-push_listed-clause-reads
 returns-in_err-push_listed-clause-reads g c =
-    let next = is_next c.lists.wanted (g.S.Source.left c.lists.source) c.in-Some.list.now (λ e. let over = c.is_over.ensures.1 e in cc) c.in-Some.ensures.head in
-    c.lists.invariant.reads _ _ (read_last _ _ _ _ _ next c.next.follows.holds-at-none.0 _ _ c.from_residual-in_err-push_listed.ensures.1)
+    let next = is_next c.lists.wanted (g.S.Source.left c.lists.source) c.in-Some.list.now (λ e. let over = c.is_over.ensures.1 e in cc) (rw c.in-Some.is at c.in_ok-next.ensures.head) in
+    c.lists.invariant.reads _ _ (read_last _ _ _ _ _ next (tail_given result_from_control_flow (g.S.Source.left c.lists.source) c.branch-next.ensures c.in_ok-next.is refl c.next.follows.holds-at-none.0) _ _ c.from_residual-in_err-push_listed.ensures.1)
 
 pub returns-in_err-push_listed-clause-writes : goal.returns-in_err-push_listed-clause-writes
 returns-in_err-push_listed-clause-writes g c =
     let x = c.in-Some.list.now in
-    let next = is_next c.lists.wanted (g.S.Source.left c.lists.source) x (λ e. let over = c.is_over.ensures.1 e in cc) c.in-Some.ensures.head in
+    let next = is_next c.lists.wanted (g.S.Source.left c.lists.source) x (λ e. let over = c.is_over.ensures.1 e in cc) (rw c.in-Some.is at c.in_ok-next.ensures.head) in
     let text = request_text (providers_of c.args.cloud.now) (asked_of c.args.query.now) x in
     let told : c.as_bytes.result.now ≡ text = c.as_bytes.ensures.value ∙ c.in_ok-text-in-Some.ensures in
-    c.lists.invariant.writes _ _ (rw next.cut_next (stopped (λ t. t) ((comma_if c.lists.later ++ text) ∷ []) _ (rw told at c.in_err-push_listed.ensures) c.from_residual-in_err-push_listed.ensures.1))
+    c.lists.invariant.writes _ _ (rw next.cut_next (stopped (λ t. t) ((comma_if c.lists.later ++ text) ∷ []) _ (rw told at c.in_err-push_listed.ensures) (λ never. absurd never) c.from_residual-in_err-push_listed.ensures.1))
 
 pub lists-preserved : goal.lists-preserved
 lists-preserved g c =
     let all = providers_of c.args.cloud.now in
     let left = g.S.Source.left in
     let x = c.in-Some.list.now in
-    let next = is_next c.lists.wanted (left c.lists.source) x (λ e. let over = c.is_over.ensures.1 e in cc) c.in-Some.ensures.head in
-    let tail : left c.next.follows.lender-at-none ≡ tail_of (left c.lists.source) = c.next.follows.holds-at-none.0 in
+    let next = is_next c.lists.wanted (left c.lists.source) x (λ e. let over = c.is_over.ensures.1 e in cc) (rw c.in-Some.is at c.in_ok-next.ensures.head) in
+    let tail : left c.next.follows.lender-at-none ≡ tail_of (left c.lists.source) = tail_given result_from_control_flow (g.S.Source.left c.lists.source) c.branch-next.ensures c.in_ok-next.is refl c.next.follows.holds-at-none.0 in
     let text = request_text all (asked_of c.args.query.now) x in
     let told : c.as_bytes.result.now ≡ text = c.as_bytes.ensures.value ∙ c.in_ok-text-in-Some.ensures in
     rw (tail, c.saturating_add-count.ensures, c.one_less-wanted.ensures)
@@ -71,7 +78,7 @@ lists-preserved g c =
       small = omega arith;
       reads = λ r new h. c.lists.invariant.reads r new (read_on _ _ _ _ x next refl r new h);
       writes = λ r new h. c.lists.invariant.writes r new
-          (rw next.cut_next (wrote_on (λ t. t) ((comma_if c.lists.later ++ text) ∷ []) (rw told at c.in_ok-push_listed.ensures) h));
+          (rw next.cut_next (wrote_on (λ t. t) ((comma_if c.lists.later ++ text) ∷ []) (rw told at c.in_ok-push_listed.ensures) (may_weaker c.next.follows.holds-at-none.1 h)));
     })
 
 pub returns-clause-reads : goal.returns-clause-reads

@@ -15,6 +15,7 @@ use Rattle.ac_report.proofs.page.write_requests.Given as goal
 abbrev pub invariant-lists : goal.invariant-lists
 invariant-lists g l =
     let left = g.S.Source.left in
+    let may_stop = g.S.Source.may_stop in
     let taken = g.W.Sink.taken in
     let failures = g.W.Sink.failures in
     let all = providers_of l.cloud in
@@ -27,8 +28,8 @@ invariant-lists g l =
       small : l.count ≤ 4294967295;
       reads : (r : Result ℕ PageFault) (new : List (List ℕ)) → Reads l.wanted l.count r (left l.source) new → Reads asked.limit 0 r (left l.fn.source) new;
       writes : (r : Result ℕ PageFault) (new : g.row.W.Denot)
-          → WritesEach taken failures l.out new r (λ text. text) (requests all asked l.later (cut l.wanted (left l.source)))
-          → WritesEach taken failures l.fn.out new r (λ text. text) (requests all asked false (cut asked.limit (left l.fn.source)));
+          → WritesEach taken failures (may_stop l.source) l.out new r (λ text. text) (requests all asked l.later (cut l.wanted (left l.source)))
+          → WritesEach taken failures (may_stop l.fn.source) l.fn.out new r (λ text. text) (requests all asked false (cut asked.limit (left l.fn.source)));
     }
 
 abbrev pub decreases-lists : goal.decreases-lists

@@ -15,7 +15,7 @@ loop-ix-preserved-then-not-is_marked g c = λ lists m r new h.
 pub returns-in_err-write_summary : goal.returns-in_err-write_summary
 returns-in_err-write_summary g c = λ lists m.
     c.loop-ix.invariant lists m _ _ (rw (range_more (length (providers_of c.args.cloud.now)) c.loop-ix.ix (omega (arith, c.len-ix-end.ensures)), sym (c.is_marked.ensures lists m) ∙ c.if-not-is_marked.false)
-    (stopped (λ t. t) ((comma_if c.loop-ix.later ++ summary_piece (shown_providers c.args.traits (providers_of c.args.cloud.now)) c.loop-ix.ix) ∷ []) _ c.in_err-write_summary.ensures c.from_residual.ensures.1))
+    (stopped (λ t. t) ((comma_if c.loop-ix.later ++ summary_piece (shown_providers c.args.traits (providers_of c.args.cloud.now)) c.loop-ix.ix) ∷ []) _ c.in_err-write_summary.ensures (λ never. never) c.from_residual.ensures.1))
 
 pub loop-ix-preserved : goal.loop-ix-preserved
 loop-ix-preserved g c = λ lists m r new h.

@@ -13,5 +13,5 @@ invariant-loop-ix g l =
     let all = providers_of l.cloud in
     let rest = λ (lists : List (List ℕ)). filter (is_summarized all lists) (range_with_len l.ix (length all - l.ix)) in
     (lists : List (List ℕ)) → IsMarked all lists l.marks → (r : Result Unit PageFault) (new : g.row.W.Denot)
-    → WritesEach g.W.Sink.taken g.W.Sink.failures l.out new r (λ text. text) (summaries (shown_providers l.traits all) l.later (rest lists))
-    → WritesEach g.W.Sink.taken g.W.Sink.failures l.fn.out new r (λ text. text) (summaries (shown_providers l.traits all) false (summarized all lists))
+    → WritesEach g.W.Sink.taken g.W.Sink.failures ⊥ l.out new r (λ text. text) (summaries (shown_providers l.traits all) l.later (rest lists))
+    → WritesEach g.W.Sink.taken g.W.Sink.failures ⊥ l.fn.out new r (λ text. text) (summaries (shown_providers l.traits all) false (summarized all lists))

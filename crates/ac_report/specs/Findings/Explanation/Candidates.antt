@@ -1,5 +1,5 @@
 -- Whether a query has a candidate, and where it has none, whether it would have one without one of the things that it asks of several slots together.
-use Rattle.std.specs.Prelude.{ℕ, Bool, true, false, not, if◌then◌else◌, List, [], ◌++◌, map, get_or, length, codes, Option, Some, None}
+use Rattle.std.specs.Prelude.{◌<◌, ◌⊎◌, ℕ, Bool, true, false, not, if◌then◌else◌, List, [], ◌++◌, map, get_or, length, codes, Option, Some, None}
 use Rattle.std.specs.List.{flat_map, list_any, range_with_len}
 use Rattle.ac_query.specs.Asked.{Asked, is_isolated}
 use Rattle.ac_query.specs.Without.{without_policy, without_required, without_subtree}
@@ -8,6 +8,7 @@ use Rattle.ac_rules.specs.Pages.{candidates}
 use Rattle.ac_rules.specs.Together.{is_empty}
 use Rattle.ac_find.specs.Shown.Explained.{requires_some}
 use Rattle.ac_base.specs.Writing.Pieces.{listed}
+use Rattle.ac_search.specs.Shown.Walk.{MayStop}
 
 abbrev pub has_candidate : List Provider → Asked → Bool
 has_candidate all asked = not (is_empty (candidates all asked))
@@ -46,6 +47,16 @@ required_found all asked = if asks_required asked then Some (has_candidate all (
 abbrev pub found_without : List Provider → Asked → Bool → FoundWithout
 found_without all asked true = record { subtrees = []; policy = None; required = None }
 found_without all asked false = record { subtrees = subtrees_found all asked; policy = policy_found all asked; required = required_found all asked }
+
+-- the search for one of these candidates may stop, with so many tries
+abbrev pub WithoutMayStop : Option ℕ → List Provider → Asked → Type 0
+WithoutMayStop tries all asked =
+    ((k : ℕ) × (k < length asked.subtrees) × MayStop tries all (without_subtree k asked) None)
+    ⊎ (MayStop tries all (without_policy asked) None ⊎ MayStop tries all (without_required asked) None)
+
+-- a search of an explanation may stop
+abbrev pub ExplanationMayStop : Option ℕ → List Provider → Asked → Type 0
+ExplanationMayStop tries all asked = MayStop tries all asked None ⊎ WithoutMayStop tries all asked
 
 -- ---- What is told of that
 

@@ -1,23 +1,26 @@
 //! Whether a query that has no candidate would have one without one of the things that it asks of several slots together, and the lines that tell it.
-ghost use Rattle.std.specs.Prelude.{◌≡◌, ◌<◌, ◌≤◌, IfOk, [], get_or, length, map};
+ghost use Rattle.std.specs.Prelude.{◌≡◌, ◌<◌, ◌≤◌, Err, IfOk, None, [], get_or, length, map};
 ghost use Rattle.ac_cloud.specs.Cloud.CloudWorld.{providers_of};
 ghost use Rattle.ac_query.specs.Shown.{suffixes_shown};
 ghost use Rattle.ac_query.specs.Shown.Queries.{asked_of};
 ghost use Rattle.ac_query.specs.Without.{without_subtree};
 ghost use Rattle.ac_find.specs.Explained.{tree_counts};
 ghost use Rattle.ac_find.specs.Shown.Explained.{trees_counted as trees_shown};
-ghost use Rattle.ac_report.specs.Findings.Explanation.Candidates.{asks_required, found_without, has_candidate, outcome, policy_found, policy_line, required_found, required_line, subtree_line, subtree_lines, subtrees_found, subtrees_found_before, without_lines};
+ghost use Rattle.ac_report.specs.Findings.Explanation.Candidates.{WithoutMayStop, asks_required, found_without, has_candidate, outcome, policy_found, policy_line, required_found, required_line, subtree_line, subtree_lines, subtrees_found, subtrees_found_before, without_lines};
 ghost use Rattle.ac_report.specs.Findings.Explanation.Shown.{found_shown};
 ghost use Rattle.ac_base.specs.Writing.Pieces.{listed};
 ghost use Rattle.ac_base.specs.Writing.{Pushes};
+ghost use Rattle.ac_search.specs.Shown.Walk.{MayStop};
+ghost use Rattle.ac_search.specs.declared.fault.SearchFault.TheVariants as fault;
 
 use super::has_candidate;
 use crate::findings::question::Question;
 use ac_base::pieces::push_marked;
-use ac_base::{NoMemory, Sink, Suffix, WriteFailed, push_all};
+use ac_base::{Sink, Suffix, WriteFailed, push_all};
 use ac_cloud::Cloud;
 use ac_find::{TreeCounts, requires_some, tree_counts};
 use ac_query::Query;
+use ac_search::SearchFault;
 use std::alloc::Global;
 use std::collections::BTreeSet;
 
@@ -31,12 +34,19 @@ pub struct FoundWithout {
 }
 
 // Whether a query has a candidate.
-fn is_found(alloc: Global, cloud: &Cloud, query: &Query) -> Result<bool, NoMemory>
-    ensures { IfOk result (λ found.
+fn is_found(
+    alloc: Global,
+    cloud: &Cloud,
+    query: &Query,
+    tries: Option<u64>,
+) -> Result<bool, SearchFault>
+    ensures found { IfOk result (λ found.
         found ≡ has_candidate (providers_of cloud.now) (asked_of query.now)) }
+    ensures stopped { result ≡ Err fault.TooManyTries
+        → MayStop tries (providers_of cloud.now) (asked_of query.now) None }
 {
     let trees = tree_counts(alloc, cloud, query)?;
-    has_candidate(alloc, cloud, query, &trees)
+    has_candidate(alloc, cloud, query, &trees, tries)
 }
 
 // The first place of a list of `same_subtree` that is equal to the one at a place.
@@ -62,14 +72,17 @@ fn find_next(
     question: &Question,
     trees: &TreeCounts,
     found: &[bool],
-) -> Result<bool, NoMemory>
+    tries: Option<u64>,
+) -> Result<bool, SearchFault>
     requires trees { trees_shown trees.now
         ≡ tree_counts (providers_of cloud.now) (asked_of question.now.query) }
     requires few { length found.now < length (asked_of question.now.query).subtrees }
     requires found { found.now ≡ subtrees_found_before (providers_of cloud.now)
         (asked_of question.now.query) (length found.now) }
-    ensures { IfOk result (λ next. next ≡ has_candidate (providers_of cloud.now)
+    ensures found { IfOk result (λ next. next ≡ has_candidate (providers_of cloud.now)
         (without_subtree (length found.now) (asked_of question.now.query))) }
+    ensures stopped { result ≡ Err fault.TooManyTries → MayStop tries (providers_of cloud.now)
+        (without_subtree (length found.now) (asked_of question.now.query)) None }
 {
     let k = found.len();
     if trees.required_traits == 0 {
@@ -80,7 +93,7 @@ fn find_next(
         return Ok(found[equal]);
     }
     let query = question.again(alloc)?.without_subtree(k);
-    has_candidate(alloc, cloud, &query, trees)
+    has_candidate(alloc, cloud, &query, trees, tries)
 }
 
 // Whether there is a candidate without each list of `same_subtree`.
@@ -89,30 +102,40 @@ fn find_subtrees(
     cloud: &Cloud,
     question: &Question,
     trees: &TreeCounts,
-) -> Result<Vec<bool>, NoMemory>
+    tries: Option<u64>,
+) -> Result<Vec<bool>, SearchFault>
     requires { trees_shown trees.now
         ≡ tree_counts (providers_of cloud.now) (asked_of question.now.query) }
-    ensures { IfOk result (λ found. found.items
+    ensures found { IfOk result (λ found. found.items
         ≡ subtrees_found (providers_of cloud.now) (asked_of question.now.query)) }
+    ensures stopped { result ≡ Err fault.TooManyTries
+        → WithoutMayStop tries (providers_of cloud.now) (asked_of question.now.query) }
 {
     let mut found = Vec::new(alloc);
     for _list in 0..question.query.subtrees().len() {
-        let next = find_next(alloc, cloud, question, trees, &found)?;
+        let next = find_next(alloc, cloud, question, trees, &found, tries)?;
         found.push(next)?;
     }
     Ok(found)
 }
 
 // Whether there is a candidate without the policy, if it is `isolate`.
-fn find_policy(alloc: Global, cloud: &Cloud, question: &Question) -> Result<Option<bool>, NoMemory>
-    ensures { IfOk result (λ found. found
+fn find_policy(
+    alloc: Global,
+    cloud: &Cloud,
+    question: &Question,
+    tries: Option<u64>,
+) -> Result<Option<bool>, SearchFault>
+    ensures found { IfOk result (λ found. found
         ≡ policy_found (providers_of cloud.now) (asked_of question.now.query)) }
+    ensures stopped { result ≡ Err fault.TooManyTries
+        → WithoutMayStop tries (providers_of cloud.now) (asked_of question.now.query) }
 {
     if !question.query.isolate() {
         return Ok(None);
     }
     let query = question.again(alloc)?.without_policy();
-    Ok(Some(is_found(alloc, cloud, &query)?))
+    Ok(Some(is_found(alloc, cloud, &query, tries)?))
 }
 
 // Whether the group without a suffix requires some trait, or one of a list.
@@ -127,31 +150,38 @@ fn find_required(
     alloc: Global,
     cloud: &Cloud,
     question: &Question,
-) -> Result<Option<bool>, NoMemory>
-    ensures { IfOk result (λ found. found
+    tries: Option<u64>,
+) -> Result<Option<bool>, SearchFault>
+    ensures found { IfOk result (λ found. found
         ≡ required_found (providers_of cloud.now) (asked_of question.now.query)) }
+    ensures stopped { result ≡ Err fault.TooManyTries
+        → WithoutMayStop tries (providers_of cloud.now) (asked_of question.now.query) }
 {
     if !asks_required(&question.query) {
         return Ok(None);
     }
     let query = question.again(alloc)?.without_required(alloc)?;
-    Ok(Some(is_found(alloc, cloud, &query)?))
+    Ok(Some(is_found(alloc, cloud, &query, tries)?))
 }
 
-/// What is found without one thing each, unless a candidate was found with all of them, by the counts of the trees.
+/// What is found without one thing each, unless a candidate was found with all of them, by the counts of the trees. A search stops where it may make
+/// no more tries.
 pub fn find_without(
     alloc: Global,
     cloud: &Cloud,
     question: &Question,
     trees: &TreeCounts,
     found: bool,
-) -> Result<FoundWithout, NoMemory>
+    tries: Option<u64>,
+) -> Result<FoundWithout, SearchFault>
     requires { trees_shown trees.now
         ≡ tree_counts (providers_of cloud.now) (asked_of question.now.query) }
     ensures found { IfOk result (λ without. found_shown without
         ≡ found_without (providers_of cloud.now) (asked_of question.now.query) found) }
     ensures few { IfOk result (λ without. length (found_shown without).subtrees
         ≤ length (asked_of question.now.query).subtrees) }
+    ensures stopped { result ≡ Err fault.TooManyTries
+        → WithoutMayStop tries (providers_of cloud.now) (asked_of question.now.query) }
 {
     if found {
         return Ok(FoundWithout {
@@ -160,9 +190,9 @@ pub fn find_without(
             required: None,
         });
     }
-    let subtrees = find_subtrees(alloc, cloud, question, trees)?;
-    let policy = find_policy(alloc, cloud, question)?;
-    let required = find_required(alloc, cloud, question)?;
+    let subtrees = find_subtrees(alloc, cloud, question, trees, tries)?;
+    let policy = find_policy(alloc, cloud, question, tries)?;
+    let required = find_required(alloc, cloud, question, tries)?;
     Ok(FoundWithout {
         subtrees,
         policy,

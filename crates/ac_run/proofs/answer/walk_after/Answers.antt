@@ -1,5 +1,4 @@
-use Rattle.std.proofs.Common.{subst, sym}
-use Rattle.std.proofs.lemmas.Result.{IfOk-weaker}
+use Rattle.std.proofs.Common.{◌∙◌, subst, sym}
 use Rattle.std.specs.List.{All}
 use Rattle.ac_cloud.specs.Cloud.CloudWorld.{providers_of}
 use Rattle.ac_query.specs.Shown.Queries.{asked_of}
@@ -10,4 +9,4 @@ use Rattle.ac_run.proofs.answer.walk_after.Goals as goal
 pub returns-clause-assigned : goal.returns-clause-assigned
 returns-clause-assigned c =
     let Assigned = All (IsAssignment (providers_of c.args.cloud.now) (asked_of c.args.query.now)) in
-    IfOk-weaker c.new.result _ _ (λ walk left. subst Assigned (sym left) (assignments _ _ _)) c.new.ensures.left
+    subst Assigned (sym (c.within.ensures.left ∙ c.in_ok-new.ensures.left)) (assignments _ _ _)

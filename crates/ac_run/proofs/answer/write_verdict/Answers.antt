@@ -21,5 +21,5 @@ write_judged-requires g c =
 pub returns-in-Ok-None : goal.returns-in-Ok-None
 returns-in-Ok-None g c =
     subst
-    (λ places. Delivers (verdict_on (providers_of c.args.cloud.now) c.args.detail (asked_of c.args.query.now) places) c.push_text.result (g.W.Sink.taken c.args.out.now) (g.W.Sink.taken c.push_text.new.out) (g.W.Sink.failures c.args.out.now) (g.W.Sink.failures c.push_text.new.out))
+    (λ places. Delivers (verdict_on (providers_of c.args.cloud.now) c.args.detail (asked_of c.args.query.now) places) ⊥ c.push_text.result (g.W.Sink.taken c.args.out.now) (g.W.Sink.taken c.push_text.new.out) (g.W.Sink.failures c.args.out.now) (g.W.Sink.failures c.push_text.new.out))
     (rw c.in-Ok-None.field-0-is at c.in-Ok-None.ensures) c.push_text.ensures

@@ -26,12 +26,23 @@ returns-in-Err-WriteFailed-clause-fault g c =
           (from_err c.write_answer.result _ _ c.in-Err-WriteFailed.is answered.part),
     )
 
+pub returns-in-Err-NoMemory-clause-fault : goal.returns-in-Err-NoMemory-clause-fault
+returns-in-Err-NoMemory-clause-fault g c =
+    let task = task_of c.args.job.now in
+    let ready = c.in_ok-ready.ready in
+    inr (
+      inr (inl (c.of-in-Err-NoMemory.ensures.line, c.of-in-Err-NoMemory.ensures.status)),
+      λ b tell. part_so (remedy_in task (world_of ready.cloud)) (answer_to ready.wanted (world_of ready.cloud)) (answer task b) _ _ (c.in_ok-ready.ensures.answer b tell)
+          (from_err c.write_answer.result _ _ c.in-Err-NoMemory.is c.write_answer.ensures.part),
+    )
+
 pub returns-clause-fault : goal.returns-clause-fault
 returns-clause-fault g c =
     let task = task_of c.args.job.now in
     let ready = c.in_ok-ready.ready in
+    let answered = c.write_answer.ensures in
     inr (
-      inr (c.of-in-Err-NoMemory.ensures.line, c.of-in-Err-NoMemory.ensures.status),
+      inr (inr (c.of-in-Err-TooManyTries.ensures.line, c.of-in-Err-TooManyTries.ensures.status, λ b tell. c.in_ok-ready.ensures.stops b tell (answered.stopped (cc)))),
       λ b tell. part_so (remedy_in task (world_of ready.cloud)) (answer_to ready.wanted (world_of ready.cloud)) (answer task b) _ _ (c.in_ok-ready.ensures.answer b tell)
-          (from_err c.write_answer.result _ _ c.in-Err-NoMemory.is c.write_answer.ensures.part),
+          (from_err c.write_answer.result _ _ c.in-Err-TooManyTries.is answered.part),
     )

@@ -51,8 +51,8 @@ fn first(alloc: Global, cloud: &Cloud, query: &Query) -> Result<Option<Vec<u32>>
         return Err(AllocError);
     };
     match plain.next() {
-        Some(list) => Ok(Some(places_among(alloc, cloud, list)?)),
-        None => Ok(None),
+        Ok(Some(list)) => Ok(Some(places_among(alloc, cloud, list)?)),
+        Ok(None) | Err(_) => Ok(None),
     }
 }
 

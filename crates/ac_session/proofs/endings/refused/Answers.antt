@@ -16,6 +16,6 @@ pub returns-in_default : goal.returns-in_default
 returns-in_default c = λ o is world all old count.
     let this = is c.in_default.not-NoMemory in
     record {
-      answer = (ends_so (Some o) world (ending.Refused c.args.refusal) old count (ap (λ o. o.output) this) (sym (ap (λ o. end_line o.status o.line) this))).answer;
+      answer = (ends_so (Some o) world (ending.Refused c.args.refusal) old count (λ e. cc) (ap (λ o. o.output) this) (sym (ap (λ o. end_line o.status o.line) this))).answer;
       world = refused_world world all c.args.refusal o this;
     }

@@ -10,7 +10,7 @@ abbrev pub invariant-turns : goal.invariant-turns
 invariant-turns g l =
     record {
       stands : (q : List ℕ) → left g.Q.Feed.remaining l.fn.lines ≡ Some q → length q < most_passed
-          → Stands l.version (world_of l.fn.cloud) q (g.W.Sink.taken l.fn.out) (world_of l.cloud) (left g.Q.Feed.remaining l.lines) (g.W.Sink.taken l.out) l.counter;
+          → Stands l.tries l.version (world_of l.fn.cloud) q (g.W.Sink.taken l.fn.out) (world_of l.cloud) (left g.Q.Feed.remaining l.lines) (g.W.Sink.taken l.out) l.counter;
       asked : g.Q.Feed.failures (feed_in l.fn.lines) ≤ g.Q.Feed.failures (feed_in l.lines);
       failures : g.W.Sink.failures l.fn.out ≤ g.W.Sink.failures l.out;
     }

@@ -2,17 +2,18 @@ use Rattle.std.proofs.Common.{◌∙◌, ap, Err}
 use Rattle.ac_cloud.specs.Cloud.CloudWorld.{world_of}
 use Rattle.std.proofs.lemmas.Result.{IfOk-at_ok}
 use Rattle.ac_session.proofs.Ended.{is_held, stop_ends, stops_by_device}
+use Rattle.ac_session.proofs.Stood.{with_weaker}
 use Rattle.ac_session.proofs.session.hold.Goals as goal
 
 -- ---- the questions are at their end
 
 pub returns-in-Ok-default-clause-answered : goal.returns-in-Ok-default-clause-answered
 returns-in-Ok-default-clause-answered g c = λ seven asked out q e few.
-    is_held c.args.version (world_of c.args.cloud) q _ _ _ (IfOk-at_ok _ c.in-Ok-default.is-0 c.answer_lines.ensures.ok q e few)
+    with_weaker c.args.tries c.args.version (world_of c.args.cloud) q (is_held _ _ _) (IfOk-at_ok _ c.in-Ok-default.is-0 c.answer_lines.ensures.ok q e few)
 
 pub returns-in-Ok-default-clause-written : goal.returns-in-Ok-default-clause-written
 returns-in-Ok-default-clause-written g c = λ zero q e few.
-    is_held c.args.version (world_of c.args.cloud) q _ _ _ (IfOk-at_ok _ c.in-Ok-default.is-0 c.answer_lines.ensures.ok q e few)
+    with_weaker c.args.tries c.args.version (world_of c.args.cloud) q (is_held _ _ _) (IfOk-at_ok _ c.in-Ok-default.is-0 c.answer_lines.ensures.ok q e few)
 
 -- ---- the session stopped
 

@@ -3,7 +3,7 @@ use Rattle.std.specs.Option.{option_map}
 use Rattle.ac_cloud.specs.Cloud.CloudWorld.{providers_of, world_of}
 use Rattle.ac_query.specs.Shown.Queries.{asked_of}
 use Rattle.ac_session.proofs.Turned.{claim_read, claimed_so}
-use Rattle.ac_session.proofs.Written.{ok_any}
+use Rattle.ac_session.proofs.Written.{turn_whole}
 use Rattle.ac_session.specs.Turns.{claim_line, claim_turn}
 use Rattle.ac_session.proofs.turns.answer_claim.Goals as goal
 
@@ -17,7 +17,7 @@ pub returns : goal.returns
 returns g c =
     let named = ap (option_map (λ list. list.items)) (sym c.in-None.is) ∙ c.in-Ok.ensures.list in
     rw (claim_read c.args.version c.args.query.now c.args.token.now (world_of c.args.cloud.now) (asked_of c.in-Ok.read.0) None c.in-Ok.ensures.asked named c.in-Ok.ensures.said)
-    (record { answer = c.write_said.ensures; world = ok_any c.write_said.result _ refl })
+    (turn_whole _ _ _ _ _ _ _ _ c.write_said.ensures refl)
 
 -- the list is judged
 pub returns-in-Some : goal.returns-in-Some

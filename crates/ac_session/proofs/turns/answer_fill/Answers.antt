@@ -1,15 +1,17 @@
-use Rattle.std.proofs.Common.{None, false}
+use Rattle.std.proofs.Common.{None, false, refl}
 use Rattle.ac_cloud.specs.Cloud.CloudWorld.{providers_of}
 use Rattle.ac_run.specs.Answer.{fills}
 use Rattle.ac_session.proofs.Turned.{query_refused}
+use Rattle.ac_session.proofs.Written.{turn_weaker}
 use Rattle.ac_session.specs.Turns.{fill_turn}
 use Rattle.ac_session.proofs.turns.answer_fill.Goals as goal
 
 pub returns-in-Err : goal.returns-in-Err
 unfolding fill_turn
 returns-in-Err g c =
-    c.refused.ensures _ (query_refused c.args.version c.args.query.now c.in-Err.refusal c.in-Err.ensures.fault (fills (providers_of c.args.cloud.now) false) None) _ _ _ _
+    turn_weaker (λ no. absurd no) _ _ _ _ _ _ _ _
+    (c.refused.ensures _ (query_refused c.args.version c.args.query.now c.in-Err.refusal c.in-Err.ensures.fault (fills (providers_of c.args.cloud.now) false) None) _ _ _ _)
 
 pub returns-in-Ok : goal.returns-in-Ok
 unfolding fill_turn
-returns-in-Ok g c = rw (c.in-Ok.ensures.fine, ← c.in-Ok.ensures.asked) c.place_all.ensures
+returns-in-Ok g c = rw (c.in-Ok.ensures.fine, ← c.in-Ok.ensures.asked) (turn_weaker (λ may. (may, refl)) _ _ _ _ _ _ _ _ c.place_all.ensures)

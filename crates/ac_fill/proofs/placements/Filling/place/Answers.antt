@@ -1,4 +1,4 @@
-use Rattle.std.proofs.Common.{◌≡◌, ◌∙◌, ◌<◌, ◌+◌, ◌∷◌, ℕ, List, Err, true, false, sym, ap₂, subst, arith, inl, inr}
+use Rattle.std.proofs.Common.{◌≡◌, ◌∙◌, ◌<◌, ◌+◌, ◌∷◌, ℕ, List, Err, true, false, refl, ap, sym, ap₂, subst, arith, inl, inr}
 use Rattle.ac_cloud.specs.Cloud.CloudWorld.{providers_of}
 use Rattle.ac_cloud.specs.World.{Provider}
 use Rattle.ac_query.specs.Asked.{Asked}
@@ -11,6 +11,7 @@ use Rattle.ac_rules.specs.Together.{sum_on, sums}
 use Rattle.ac_fill.specs.Ends.{AreAhead, Stand, stand_of, takings_of, world_at}
 use Rattle.ac_fill.specs.Filled.{filled, units_left}
 use Rattle.ac_fill.specs.Shown.{asked_in, count_in, taken_in, with_taken, SumsFit}
+use Rattle.ac_report.proofs.Pages.Writing.{same_fault}
 use Rattle.ac_fill.proofs.Ending.{ends_on, ends_refused, ends_stopped, is_step, leaves, places_err, same_asked, stays}
 use Rattle.ac_fill.proofs.Placing.{ahead_after, ahead_first, ahead_past, filled_first}
 use Rattle.ac_fill.proofs.Units.{claim_takes}
@@ -37,6 +38,11 @@ returns-in_err-push_piece-clause-places g c = λ rest e.
     (ends_stopped all asked (stand_of all c.room.self) next list
     (filled_first asked c.requires.asks c.room.self.wanted now list _ (c.wants.ensures.wanted c.room-test.true) (ahead_first now asked list rest is (c.room.invariant.ahead rest e)))
     (c.in_err-push_piece.ensures (line all) list (sym (c.deref.ensures.value ∙ c.in_ok-put_line.ensures)))))
+
+pub returns-in_err-push_piece-clause-untried : goal.returns-in_err-push_piece-clause-untried
+returns-in_err-push_piece-clause-untried g c = λ e.
+    let piece = c.in_err-push_piece.ensures (λ t. t) _ refl in
+    (piece.stopped (ap Err (same_fault c.from_residual-in_err-push_piece.result _ _ c.from_residual-in_err-push_piece.ensures.1 e))).0
 
 pub room-smaller : goal.room-smaller
 room-smaller g c =

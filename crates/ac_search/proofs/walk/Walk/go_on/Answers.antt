@@ -20,7 +20,7 @@ returns-then-place-index-clause-passes c =
     let later : place_in w < c.args.place = omega (arith, place_read w c.index.result.now c.index.ensures, c.if-place-index.true) in
     let there = get_or-set_same w.places.items w.depth c.args.place 0 (omega (arith, w.places_len, w.sound.within)) in
     record {
-      same = record { cloud = refl; query = refl; after = refl; least = refl; roots = refl };
+      same = record { cloud = refl; query = refl; after = refl; least = refl; roots = refl; most = refl };
       path = refl;
       depth = refl;
       on = rw there c.requires.from;
@@ -30,4 +30,4 @@ returns-then-place-index-clause-passes c =
     }
 
 pub returns-else-place-index-clause-passes : goal.returns-else-place-index-clause-passes
-returns-else-place-index-clause-passes c = record { same = record { cloud = refl; query = refl; after = refl; least = refl; roots = refl }; path = refl; depth = refl; on = omega arith; left = refl; up = lex_irrefl (front_in c.args.self.now); kept = omega arith }
+returns-else-place-index-clause-passes c = record { same = record { cloud = refl; query = refl; after = refl; least = refl; roots = refl; most = refl }; path = refl; depth = refl; on = omega arith; left = refl; up = lex_irrefl (front_in c.args.self.now); kept = omega arith }

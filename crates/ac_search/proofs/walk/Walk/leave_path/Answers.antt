@@ -7,6 +7,7 @@ use Rattle.ac_search.specs.Hosts.{stands}
 use Rattle.ac_search.specs.Shown.Hosts.{Settles}
 use Rattle.ac_search.specs.Shown.Walk.{cloud_in, roots_in, path_in, left_of}
 use Rattle.ac_search.proofs.Steps.SpentLemmas.{over_spent, settles_still}
+use Rattle.ac_search.proofs.Steps.StepLemmas.{may_same}
 use Rattle.ac_search.proofs.walk.Walk.leave_path.Goals as goal
 
 pub back-preserved : goal.back-preserved
@@ -21,5 +22,6 @@ back-preserved c =
       cloud = ap (λ cloud. providers_of cloud.now) same.cloud ∙ c.back.invariant.cloud;
       query = ap (λ query. asked_of query.now) same.query ∙ c.back.invariant.query;
       roots = ap (option_map (λ marks. marks.items)) same.roots ∙ c.back.invariant.roots;
+      stops = λ may. c.back.invariant.stops (may_same w v same may);
       left = over_spent w settles c.narrowest-ix.result none (path_in w) there (left_of v) c.take_back.ensures.passes ∙ c.back.invariant.left;
     }

@@ -33,6 +33,7 @@ returns-in-Some c =
       cloud = refl;
       query = refl;
       path = refl;
+      stops = λ may. may;
       left = rw (c.in-Some.is, items) (left_fewer (cloud_in w) (query_in w) c.in-Some.marks.items c.leave.new.marks (are_fewer (cloud_in w) w.path.items _ _ left) w.least.items (front_in w));
       roots = rw (c.in-Some.is, items) left;
     }

@@ -54,7 +54,7 @@ returns-clause-goes c =
     let front = front_put w c.args.provider c.requires.next in
     let p = next_at m w.depth (place_in w) in
     record {
-      same = record { cloud = c.take.ensures.same.cloud; query = c.take.ensures.same.query; after = refl; least = refl; roots = refl };
+      same = record { cloud = c.take.ensures.same.cloud; query = c.take.ensures.same.query; after = refl; least = refl; roots = refl; most = refl };
       left = rw (c.take.ensures.same.cloud, c.take.ensures.same.query, next, front, there)
           (sym (left_place m w.least.items (front_in w) (suc w.depth) start c.entry-start.result.1 (length-append (path_in w) (p ∷ []) ∙ omega (arith, w.sound.long)) c.requires.short c.entry-start.ensures));
       up = rw (c.take.ensures.same.cloud, c.take.ensures.same.query, next, front, there) (lex_longer (front_in w) (next_at m (suc w.depth) start) []);

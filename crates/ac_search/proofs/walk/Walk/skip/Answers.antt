@@ -23,4 +23,4 @@ pub returns-clause-skips : goal.returns-clause-skips
 returns-clause-skips c =
     let w = c.args.self.now in
     let place = place_read w c.index_mut.result.now c.index_mut.ensures.value in
-    record { same = record { cloud = refl; query = refl; after = refl; least = refl; roots = refl }; path = refl; depth = refl; at = rw (place, get_or-set_same w.places.items w.depth (place_in w + 1) 0 (omega (arith, w.places_len, w.sound.within))) refl; counted = c.requires.counted }
+    record { same = record { cloud = refl; query = refl; after = refl; least = refl; roots = refl; most = refl }; path = refl; depth = refl; at = rw (place, get_or-set_same w.places.items w.depth (place_in w + 1) 0 (omega (arith, w.places_len, w.sound.within))) refl; counted = c.requires.counted }

@@ -63,7 +63,7 @@ returns c =
     let there = get_or-set_same w.places.items e (a + 1) 0 (omega (arith, w.places_len, s.within)) in
     let path : path_in w ≡ q ++ p ∷ [] = ap (λ (i : ℕ). take i w.path.items) deep ∙ take-suc w.path.items e 0 (omega (arith, w.path_len, s.within)) in
     record {
-      same = record { cloud = c.give_back.ensures.same.cloud; query = c.give_back.ensures.same.query; after = refl; least = refl; roots = refl };
+      same = record { cloud = c.give_back.ensures.same.cloud; query = c.give_back.ensures.same.query; after = refl; least = refl; roots = refl; most = refl };
       depth = deep;
       passes = rw (c.give_back.ensures.same.cloud, c.give_back.ensures.same.query, place, there, front_deep w e deep, path) (back_passes (laws_in w) q used p a s);
       ended = λ end. rw (c.give_back.ensures.same.cloud, c.give_back.ensures.same.query, place, there, front_deep w e deep) (sym (left_back (laws_in w) q used p a s (rw deep at end)));

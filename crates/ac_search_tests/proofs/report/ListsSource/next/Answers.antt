@@ -15,4 +15,4 @@ pub returns : goal.returns
 returns c =
     let within : c.args.self.now.at < length c.args.self.now.lists.now = search arith in
     let next = step c.args.self.now.lists.now c.args.self.now.at _ within in
-    ((refl, λ _. tt, (next.0, tt)), record { head = next.1; tail = tt })
+    ((refl, λ _. tt, (next.0, (λ never. never), tt)), record { head = next.1; stopped = tt; tail = tt })

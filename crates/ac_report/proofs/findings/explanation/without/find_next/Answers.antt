@@ -18,8 +18,8 @@ counts_stay : (all : List Provider) (asked : Asked) (k : ℕ) → tree_counts al
 unfolding takes_root
 counts_stay all asked k = refl
 
-pub returns-then-trees-eq0 : goal.returns-then-trees-eq0
-returns-then-trees-eq0 c =
+pub returns-then-trees-eq0-clause-found : goal.returns-then-trees-eq0-clause-found
+returns-then-trees-eq0-clause-found c =
     let all = providers_of c.args.cloud.now in
     let asked = asked_of c.args.question.now.query in
     let k = length c.args.found.now in
@@ -27,8 +27,8 @@ returns-then-trees-eq0 c =
     let none = ap (λ (counts : TreeCounts). counts.required_traits) counts ∙ c.if-trees-eq0.true in
     sym (ap (λ lists. not (is_empty lists)) (none_without_traits all (without_subtree k asked) none))
 
-pub returns-then-equal-k : goal.returns-then-equal-k
-returns-then-equal-k c =
+pub returns-then-equal-k-clause-found : goal.returns-then-equal-k-clause-found
+returns-then-equal-k-clause-found c =
     let all = providers_of c.args.cloud.now in
     let asked = asked_of c.args.question.now.query in
     let k = length c.args.found.now in
@@ -50,7 +50,12 @@ has_candidate-requires c =
     let query = c.without_subtree-query.ensures ∙ ap (without_subtree k) c.in_ok-again.ensures in
     c.requires.trees ∙ (sym (counts_stay all asked k) ∙ ap (tree_counts all) (sym query))
 
-pub returns : goal.returns
-returns c =
+pub returns-clause-found : goal.returns-clause-found
+returns-clause-found c =
     let query = c.without_subtree-query.ensures ∙ ap (without_subtree (length c.args.found.now)) c.in_ok-again.ensures in
-    rw query at c.has_candidate.ensures
+    rw query at c.has_candidate.ensures.found
+
+pub returns-clause-stopped : goal.returns-clause-stopped
+returns-clause-stopped c =
+    let query = c.without_subtree-query.ensures ∙ ap (without_subtree (length c.args.found.now)) c.in_ok-again.ensures in
+    rw query at c.has_candidate.ensures.stopped

@@ -11,6 +11,6 @@ returns-clause-few c =
     let all = providers_of c.args.cloud.now in
     let asked = asked_of c.args.question.now.query in
     let many =
-    ap length c.in_ok-subtrees.ensures
+    ap length c.in_ok-subtrees.ensures.found
     ∙ length-map-range_with_len (λ (k : ℕ). has_candidate all (without_subtree k asked)) 0 (length asked.subtrees) in
     omega (arith, many)
