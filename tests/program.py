@@ -32,6 +32,7 @@ from notation import HEADERS, provider
 from release import NO_PROGRAM, UNBUILT, clone, releases, without_program
 from remedies import second_lines
 from sessions import sessions, untried
+from tries import tries
 from try_with_service import answers, differences, short, told
 
 ROOT = os.path.dirname(os.path.dirname(os.path.abspath(__file__)))
@@ -156,6 +157,11 @@ WORDS = [
     refused('a token for hosts', over(['hosts', 'resources=VCPU:2', ONE_HOST.strip()])),
     refused('--after for hosts', over(['hosts', 'resources=VCPU:2', '--after', ONE_HOST.strip()]), '--after'),
     refused('no host for why', over(['why', 'resources=VCPU:2']), '<HOST>', 'Usage: ac_cli why'),
+    *(refused(f'{value} for --tries', [*tokens('resources=VCPU:2'), f'--tries={value}'], f"invalid value '{value}' for '--tries <N>'", 'Usage: ac_cli tokens')
+      for value in ('', '-1', 'x', '1.5', '2147483648')),
+    refused('--tries without a value', [*tokens('resources=VCPU:2'), '--tries'], '--tries'),
+    *(refused(f'--tries for {name}', over([name, *words, '--tries', '9']), '--tries') for name, words in
+      (('check', []), ('verify', ['resources=VCPU:2', ONE_HOST.strip()]))),
     refused('two hosts for why', over(['why', 'resources=VCPU:2', ONE_HOST.strip(), ONE_HOST.strip()])),
     refused('--after for why', over(['why', 'resources=VCPU:2', ONE_HOST.strip(), '--after', ONE_HOST.strip()]), '--after'),
     refused('a query for a session', over(['session', 'resources=VCPU:2'])),
@@ -547,7 +553,7 @@ def main(*given):
     chance = [*drawn(150), *drawn_tables(200), *drawn_queries(200)]
     linked = STATIC if os.path.isfile(os.path.join(ROOT, 'out', 'ac_cli.o')) and 'AC_CLI' not in os.environ else []
     cases = [PAGES, CRATES, DRAWING, *linked, *HELP, *WORDS, *FILES, *FOLDERS, *DETAILS, *second_lines(), *PASTED, *DEVICES, *GROWTHS, KNOWN, *REFUSALS, *SMALL, *pages, remade('examples/private/README.md'),
-             *rules, *examples(), *concerned(), *exports(), *database_exports(), *sessions(PROGRAM), *chance, *LARGE, *hostile(PROGRAM), *cliffs(PROGRAM), FEW_BYTES, *cuts()]
+             *rules, *examples(), *concerned(), *exports(), *database_exports(), *sessions(PROGRAM), *chance, *LARGE, *hostile(PROGRAM), *cliffs(PROGRAM), *tries(PROGRAM), FEW_BYTES, *cuts()]
     cases = [case for case in cases if all(word in case.name for word in words)]
     failed = 0
     with ThreadPoolExecutor(max_workers=2) as pool:
