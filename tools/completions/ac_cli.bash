@@ -28,15 +28,15 @@ _ac_cli() {
     else
         case ${COMP_WORDS[1]} in
         check) offered='--tables --providers --inventories --usages --traits --aggregates --detail --help' ;;
-        candidates) offered='--tables --providers --inventories --usages --traits --aggregates --detail --microversion --after --no-traits --help' ;;
-        tokens) offered='--tables --providers --inventories --usages --traits --aggregates --detail --microversion --after --help' ;;
-        list) offered='--tables --providers --inventories --usages --traits --aggregates --detail --microversion --after --no-traits --help' ;;
-        fill) offered='--tables --providers --inventories --usages --traits --aggregates --detail --microversion --sum --help' ;;
+        candidates) offered='--tables --providers --inventories --usages --traits --aggregates --detail --microversion --tries --after --no-traits --help' ;;
+        tokens) offered='--tables --providers --inventories --usages --traits --aggregates --detail --microversion --tries --after --help' ;;
+        list) offered='--tables --providers --inventories --usages --traits --aggregates --detail --microversion --tries --after --no-traits --help' ;;
+        fill) offered='--tables --providers --inventories --usages --traits --aggregates --detail --microversion --tries --sum --help' ;;
         verify) offered='--tables --providers --inventories --usages --traits --aggregates --detail --microversion --help' ;;
-        explain) offered='--tables --providers --inventories --usages --traits --aggregates --detail --microversion --help' ;;
-        hosts) offered='--tables --providers --inventories --usages --traits --aggregates --detail --microversion --help' ;;
-        why) offered='--tables --providers --inventories --usages --traits --aggregates --detail --microversion --help' ;;
-        session) offered='--tables --providers --inventories --usages --traits --aggregates --detail --microversion --help' ;;
+        explain) offered='--tables --providers --inventories --usages --traits --aggregates --detail --microversion --tries --help' ;;
+        hosts) offered='--tables --providers --inventories --usages --traits --aggregates --detail --microversion --tries --help' ;;
+        why) offered='--tables --providers --inventories --usages --traits --aggregates --detail --microversion --tries --help' ;;
+        session) offered='--tables --providers --inventories --usages --traits --aggregates --detail --microversion --tries --help' ;;
         help) offered='check candidates tokens list fill verify explain hosts why session help' ;;
         esac
     fi
