@@ -1,11 +1,12 @@
 """Clouds on which a search tries many choices, unless it looks ahead; each answer follows from the rules. The program must answer each within two seconds of
-processor time and 2 GiB of memory, and all questions of a session about it together, with the reading."""
+processor time and 1 GiB of memory, and all questions of a session about it together, with the reading."""
 from __future__ import annotations
 
 from cases import Case
-from hostile import LIMITED
 from large import ids, star
 from notation import HEADERS, provider
+
+LIMITED = 'ulimit -v 1048576; ulimit -t 2; exec "$@"'
 
 
 def inventories(rows):
@@ -68,16 +69,65 @@ def filled(all_trees, name, total):
             'inventories': lambda: inventories((id, name, total) for tree in all_trees for id in tree[1:])}
 
 
+def shared(hosts, disks, zones):
+    """Hosts and the disks that they share, in turn in one of so many aggregates."""
+    return {
+        'providers': lambda: HEADERS['providers'] + ''.join(f'{id},{id},\n' for id in hosts + disks),
+        'inventories': lambda: inventories([*((id, 'CUSTOM_CPU', 8) for id in hosts), *((id, 'DISK_GB', 100) for id in disks)]),
+        'traits': lambda: traits((id, 'MISC_SHARES_VIA_AGGREGATE') for id in disks),
+        'aggregates': lambda: HEADERS['aggregates'] + ''.join(f'{id},{provider(0xa0000 + place % zones)}\n' for all_ids in (hosts, disks)
+                                                              for place, id in enumerate(all_ids)),
+    }
+
+
 # Ten zones of 100 disks, each shared by the 400 hosts of its zone, and hosts before disks: each host with each disk of its zone.
 HOSTS = ids(4000)
 DISKS = [provider(n) for n in range(4001, 5001)]
-SHARED_BY_ZONES = {
-    'providers': lambda: HEADERS['providers'] + ''.join(f'{id},{id},\n' for id in HOSTS + DISKS),
-    'inventories': lambda: inventories([*((id, 'CUSTOM_CPU', 8) for id in HOSTS), *((id, 'DISK_GB', 100) for id in DISKS)]),
-    'traits': lambda: traits((id, 'MISC_SHARES_VIA_AGGREGATE') for id in DISKS),
-    'aggregates': lambda: HEADERS['aggregates'] + ''.join(f'{id},{provider(0xa0000 + place % 10)}\n' for all_ids in (HOSTS, DISKS)
-                                                          for place, id in enumerate(all_ids)),
+
+# Hosts and one disk behind them; hosts of 3000 racks with a disk each.
+MANY = ids(32000)
+RACKS = MANY[29000:]
+
+# 2000 disks of a site, each in the aggregate of a rack too, with two of the hosts.
+SITE = shared(ids(20000), [provider(n) for n in range(20001, 22001)], 1)
+SITE_OF_RACKS = {**SITE, 'aggregates': lambda: SITE['aggregates']() + ''.join(
+    f'{provider(id)},{provider(0xb0000 + place)}\n' for place in range(2000) for id in (20001 + place, 2 * place + 1, 2 * place + 2))}
+
+# 8000 hosts that all share, each with all and, once more, with one other.
+SHARING = ids(8000)
+IN_PAIRS = shared([], SHARING, 1)
+ALL_IN_PAIRS = {**IN_PAIRS, 'aggregates': lambda: IN_PAIRS['aggregates']() + ''.join(f'{id},{provider(0xb0000 + place // 2)}\n'
+                                                                                     for place, id in enumerate(SHARING))}
+
+# Ten hosts of 24 virtual functions, of which three, with one unit left each, are on the second network.
+FEW_LEFT = {**FUNCTIONS, 'inventories': lambda: inventories((id, 'SRIOV_NET_VF', 1 if place < 3 else 8) for tree in NETWORKS for place, id in enumerate(tree[1:]))}
+
+# Ten hosts of 20 network cards and three GPUs.
+CARDS = {'providers': lambda: providers(trees(10, 23)),
+         'inventories': lambda: inventories((id, 'PGPU' if place < 3 else 'NIC', 8) for tree in trees(10, 23) for place, id in enumerate(tree[1:]))}
+
+# 5000 hosts of two NUMA nodes with three virtual functions each: what each provider of a host has, and where its parent stands.
+NUMA = trees(5000, 8)
+VF = ('SRIOV_NET_VF', 8)
+OF_HOST = [(None, None), *[(('VCPU', 16), 0), (VF, 1), (VF, 1), (VF, 1)], *[(('VCPU', 16), 0), (VF, 5), (VF, 5), (VF, 5)]]
+WITH_NODES = {
+    'providers': lambda: HEADERS['providers'] + ''.join(f'{id},{tree[0]},{"" if above is None else tree[above]}\n'
+                                                        for tree in NUMA for id, (_, above) in zip(tree, OF_HOST)),
+    'inventories': lambda: inventories((id, *has) for tree in NUMA for id, (has, _) in zip(tree, OF_HOST) if has),
 }
+ON_ONE_NODE = groups(1, 2, 'resources{}=VCPU:9') + '&resources3=SRIOV_NET_VF:1&group_policy=none' + '&same_subtree=1,2' * 256
+
+# A host of 512 nodes and as many virtual functions beside them; of the `same_subtree` the last alone can't be met.
+BESIDE_NODES = {
+    'providers': lambda: star(1025),
+    'inventories': lambda: inventories((id, 'CUSTOM_TOP' if not place else 'VCPU' if place % 2 else 'SRIOV_NET_VF', 8) for place, id in enumerate(ids(1025))),
+}
+LAST_BITES = ('resources1=CUSTOM_TOP:1&' + groups(2, 3, 'resources{}=VCPU:1') + '&resources4=SRIOV_NET_VF:1&group_policy=none'
+              + '&same_subtree=1,2' * 16 + '&same_subtree=2,4')
+
+# A long list of traits, and one of aggregates.
+NO_TRAITS = 'resources=CUSTOM_CPU:1&required=' + ','.join(f'CUSTOM_N{n}' for n in range(5000))
+NO_AGGREGATES = 'resources=VCPU:1&member_of=in:' + ','.join(provider(0xc0000 + n) for n in range(1700))
 
 # A node that has the class with the required trait, before 64 that have it without; all have the classes of four groups behind.
 LAST_GIVES = {
@@ -136,6 +186,21 @@ ASKED = [
     ('a trait that one node alone gives, in one slot', LAST_GIVES, ['tokens', ONE_REQUIRED], lambda: [','.join([NODES[-1], *[NODES[1]] * 4])]),
     ('groups that two nodes can\'t bear together', SHARED_BESIDE, ['tokens', FOUR_FOUR_THREE], lambda: []),
     ('groups that two nodes can\'t bear together, hosts', SHARED_BESIDE, ['hosts', FOUR_FOUR_THREE], 1),
+    ('one disk behind all hosts', shared(MANY[:-1], MANY[-1:], 1), ['tokens', 'resources1=CUSTOM_CPU:1&resources2=DISK_GB:1&group_policy=none'],
+     lambda: [f'{id},{MANY[-1]}' for id in MANY[:-1]]),
+    ('a disk for each rack', shared(MANY[:29000], RACKS, 3000), ['tokens', 'resources=CUSTOM_CPU:1,DISK_GB:1'],
+     lambda: [f'{id},{RACKS[place % 3000]}' for place, id in enumerate(MANY[:29000])]),
+    ('disks of a site and of its racks', SITE_OF_RACKS, ['tokens', 'resources=CUSTOM_CPU:1,DISK_GB:1&limit=1000'],
+     lambda: [f'{provider(1)},{provider(20001 + place)}' for place in range(1000)]),
+    ('hosts that all share', ALL_IN_PAIRS, ['tokens', 'resources=DISK_GB:1'], lambda: SHARING),
+    ('a network with few functions left', FEW_LEFT, ['tokens', TOO_MANY.replace('isolate', 'none')], lambda: []),
+    ('cards, and more groups of GPUs than there are', CARDS,
+     ['tokens', groups(10, 15, 'resources{}=NIC:1') + '&' + groups(20, 23, 'resources{}=PGPU:1') + '&group_policy=isolate'], lambda: []),
+    ('256 equal same_subtree', WITH_NODES, ['explain', ON_ONE_NODE], 1),
+    ('the last same_subtree of 17', BESIDE_NODES, ['tokens', LAST_BITES], lambda: []),
+    ('traits that nobody has', shared(ids(20000), [], 1), ['explain', NO_TRAITS], 1),
+    ('aggregates that nobody is in', {'providers': lambda: star(16000), 'inventories': lambda: inventories((id, 'VCPU', 8) for id in ids(16000))},
+     ['hosts', NO_AGGREGATES], 1),
     ('fives and sixes', filled(TEN, 'VCPU', 10), ['tokens', FIVES_AND_SIXES], lambda: []),
     ('disks that all share', ALL_SHARE, ['hosts', groups(1, 64, 'resources{}=DISK_GB:1') + '&group_policy=none'], 0),
     ('aggregates of a long list', IN_AGGREGATES, ['tokens', EVERY_OTHER], lambda: [','.join([id] * 60) for id in MEMBERS[1::2]]),
@@ -146,7 +211,7 @@ ASKED = [
      ['fill', groups(1, 4, 'resources{}=CUSTOM_PCI:1') + '&group_policy=isolate'], lambda: [line for tree in DEVICES for line in parts(tree[1:], 4)]),
     ('three of 500 nodes', filled(STAR, 'VCPU', 8),
      ['fill', groups(1, 3, 'resources{}=VCPU:5') + '&group_policy=none'], lambda: parts(STAR[0][1:], 3)),
-    ('disks of zones behind their hosts', SHARED_BY_ZONES, ['tokens', 'resources=CUSTOM_CPU:1,DISK_GB:1&limit=20000'],
+    ('disks of zones behind their hosts', shared(HOSTS, DISKS, 10), ['tokens', 'resources=CUSTOM_CPU:1,DISK_GB:1&limit=20000'],
      lambda: [f'{host},{disk}' for place, host in enumerate(HOSTS[:200]) for disk in DISKS[place % 10::10]]),
 ]
 
@@ -161,7 +226,7 @@ def questions(cloud, query):
 
 def cliffs(program):
     """The cases, each of which runs this program."""
-    limited = ['sh', '-c', LIMITED.format(1), 'limited', program]
+    limited = ['sh', '-c', LIMITED, 'limited', program]
     for name, cloud, words, made in ASKED:
         yield Case(f'all questions: {name}', [*limited, 'session'], None, tables=cloud, given=questions(cloud, words[-1]).encode())
         if isinstance(made, int):
