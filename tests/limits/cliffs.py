@@ -84,6 +84,9 @@ def shared(hosts, disks, zones):
 HOSTS = ids(4000)
 DISKS = [provider(n) for n in range(4001, 5001)]
 
+# Disks of a hundred zones before their hosts.
+ZONES = shared(ids(40000), [provider(n) for n in range(40001, 45001)], 100)
+
 # Hosts and one disk behind them; hosts of 3000 racks with a disk each.
 MANY = ids(32000)
 RACKS = MANY[29000:]
@@ -186,6 +189,7 @@ ASKED = [
     ('a trait that one node alone gives, in one slot', LAST_GIVES, ['tokens', ONE_REQUIRED], lambda: [','.join([NODES[-1], *[NODES[1]] * 4])]),
     ('groups that two nodes can\'t bear together', SHARED_BESIDE, ['tokens', FOUR_FOUR_THREE], lambda: []),
     ('groups that two nodes can\'t bear together, hosts', SHARED_BESIDE, ['hosts', FOUR_FOUR_THREE], 1),
+    ('disks of zones before their hosts', ZONES, ['hosts', 'resources1=DISK_GB:1&resources2=CUSTOM_CPU:1&group_policy=none'], 0),
     ('one disk behind all hosts', shared(MANY[:-1], MANY[-1:], 1), ['tokens', 'resources1=CUSTOM_CPU:1&resources2=DISK_GB:1&group_policy=none'],
      lambda: [f'{id},{MANY[-1]}' for id in MANY[:-1]]),
     ('a disk for each rack', shared(MANY[:29000], RACKS, 3000), ['tokens', 'resources=CUSTOM_CPU:1,DISK_GB:1'],

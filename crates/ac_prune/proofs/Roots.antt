@@ -5,6 +5,7 @@ pub mod RootLemmas
 pub mod TreeLemmas
 pub mod PartLemmas
 pub mod FamilyLemmas
+pub mod GroveLemmas
 pub mod KeptLemmas
 pub mod KindLemmas
 pub mod MixedLemmas

@@ -2,3 +2,4 @@
 pub mod SoughtLemmas
 pub mod OpenLemmas
 pub mod CollectiveLemmas
+pub mod GroupLemmas

@@ -1,13 +1,22 @@
 -- The search of a query: the choices of its slots, and what is asked of fronts and of whole lists.
-use Rattle.std.specs.Prelude.{ℕ, ◌&&◌, Bool, List, [], map, length}
+use Rattle.std.specs.Prelude.{◌≡◌, ℕ, ◌<◌, ◌&&◌, Bool, false, List, [], map, length, slice_index_or}
 use Rattle.std.specs.List.{list_all, filter, range_with_len}
 use Rattle.ac_query.specs.Asked.{Asked, Slot, slots_of}
 use Rattle.ac_cloud.specs.World.{Provider, provider_at}
-use Rattle.ac_rules.specs.Placed.{Placed, assigned}
-use Rattle.ac_rules.specs.Own.{fits}
+use Rattle.ac_rules.specs.Placed.{Placed, placed_at, assigned}
+use Rattle.ac_rules.specs.Own.{aggregates_fit, fits, traits_fit, tree_fits}
 use Rattle.ac_rules.specs.Together.{collective, holds, subtree}
 use Rattle.ac_rules.specs.Judge.{is_candidate, is_open}
 use Rattle.ac_prune.specs.Search.{Search}
+
+-- the rules that a slot's provider meets by the slot's group, whatever the slot needs
+abbrev pub meets_group : List Provider → Placed → Bool
+meets_group all x = traits_fit all x && aggregates_fit all x && tree_fits all x
+
+-- marks of the providers that meet the rules of a slot's group
+pub record AreMet (all : List Provider) (asked : Asked) (s : ℕ) (marks : List Bool) : Type 0 where
+  pub count : length marks ≡ length all
+  pub each : (p : ℕ) → p < length all → slice_index_or marks p false ≡ meets_group all (placed_at asked s p)
 
 -- the provider has room, in each of the slot's classes, for what the slot alone asks
 unfoldable pub has_room_alone : List Provider → Placed → Bool

@@ -1,7 +1,7 @@
 //! The providers that each slot may have: those that meet its rules and have room for what it alone asks.
 
-ghost use Rattle.std.specs.Prelude.{◌≡◌, ◌<◌, ◌≤◌, ◌&&◌, IfOk, [], true, length, map};
-ghost use Rattle.std.specs.List.{All, list_all};
+ghost use Rattle.std.specs.Prelude.{◌≡◌, ◌<◌, ◌≤◌, ◌&&◌, IfOk, IfSome, [], true, length, map};
+ghost use Rattle.std.specs.List.{All, list_all, range_with_len};
 ghost use Rattle.ac_cloud.specs.Cloud.CloudWorld.{providers_of};
 ghost use Rattle.ac_query.specs.Asked.{slots_of};
 ghost use Rattle.ac_query.specs.Shown.Queries.{asked_of};
@@ -10,13 +10,14 @@ ghost use Rattle.ac_rules.specs.Judge.{is_open};
 ghost use Rattle.ac_prune.specs.Left.Accounts.{providers_in, asked_in, Accounts};
 ghost use Rattle.ac_prune.specs.Loads.{choice_in, choices_in};
 ghost use Rattle.ac_rules.specs.Own.{fits};
-ghost use Rattle.ac_prune.specs.QuerySearch.{has_room_alone};
+ghost use Rattle.ac_rules.specs.Shown.Assignments.{placed_of};
+ghost use Rattle.ac_prune.specs.QuerySearch.{has_room_alone, meets_group, AreMet};
 
 use crate::ledger::Ledger;
 use ac_base::NoMemory;
 use ac_cloud::Cloud;
 use ac_query::Query;
-use ac_rules::slots::count_slots;
+use ac_rules::slots::{are_of_one_group, count_slots};
 use ac_rules::{Assignment, Placed};
 use std::alloc::Global;
 
@@ -37,29 +38,102 @@ fn is_open(cloud: &Cloud, query: &Query, front: &[u32]) -> bool
     front.has_room() && front.is_isolated() && front.has_anchor()
 }
 
+// Whether a provider meets the rules of its slot's group, whatever the slot needs.
+fn meets_group(placed: &Placed) -> bool
+    ensures { result ≡ meets_group (providers_of placed.now.cloud.now) (placed_of placed.now) }
+{
+    placed.has_slot_traits() && placed.has_aggregates() && placed.is_in_tree()
+}
+
+// For each provider whether it meets the rules of a slot's group.
+fn mark_group(alloc: Global, cloud: &Cloud, query: &Query, s: usize) -> Result<Vec<bool>, NoMemory>
+    requires { s < length (slots_of (asked_of query.now)) }
+    ensures { IfOk result (λ marks. marks.items ≡ map
+        (λ ix. meets_group (providers_of cloud.now) (placed_at (asked_of query.now) s ix))
+        (range_with_len 0 (length (providers_of cloud.now)))) }
+{
+    let met = (0..cloud.len()).map(|ix| meets_group(&Placed::new(cloud, query, s, ix)));
+    Ok(met.collect(alloc)?)
+}
+
+// The marks of the first slot's group, where it has more slots.
+
+fn mark_first(alloc: Global, cloud: &Cloud, query: &Query) -> Result<Option<Vec<bool>>, NoMemory>
+    ensures { IfOk result (λ first. IfSome first (λ marks. AreMet (providers_of cloud.now)
+        (asked_of query.now) 0 marks.items)) }
+{
+    if count_slots(query) == 1 || !are_of_one_group(query, 0, 1) {
+        return Ok(None);
+    }
+    Ok(Some(mark_group(alloc, cloud, query, 0)?))
+}
+
+// The marks of the first slot's group, for a slot of it.
+fn marks_for<'m>(
+    cloud: &Cloud,
+    query: &Query,
+    first: Option<&'m [bool]>,
+    s: usize,
+) -> Option<&'m [bool]>
+    requires slot { s < length (slots_of (asked_of query.now)) }
+    requires first { IfSome first (λ marks. AreMet (providers_of cloud.now)
+        (asked_of query.now) 0 marks.now) }
+    ensures { IfSome result (λ marks. AreMet (providers_of cloud.now) (asked_of query.now)
+        s marks.now) }
+{
+    if are_of_one_group(query, 0, s) {
+        first
+    } else {
+        None
+    }
+}
+
+// Whether a provider meets the rules of a slot alone, by the marks for its group, where there are some.
+fn fits(placed: &Placed, met: Option<&[bool]>) -> bool
+    requires { IfSome met (λ marks. AreMet (providers_of placed.now.cloud.now)
+        (asked_of placed.now.query.now) placed.now.slot marks.now) }
+    ensures { result ≡ fits (providers_of placed.now.cloud.now) (placed_of placed.now) }
+{
+    match met {
+        Some(marks) => placed.has_units() && marks[placed.provider as usize],
+        None => placed.fits(),
+    }
+}
+
 // Whether a provider is one of those that a slot may have, by whether the empty list is open.
 #[tactic(auto, using(crate::proofs::Paths::LedgerLemmas::enough_alone))]
-fn is_choice(ledger: &Ledger, s: usize, ix: u32, opens: bool) -> bool
+fn is_choice(ledger: &Ledger, s: usize, ix: u32, opens: bool, met: Option<&[bool]>) -> bool
     requires slot { s < length (slots_of (asked_in ledger.now)) }
     requires provider { ix < length (providers_in ledger.now) }
     requires empty { Accounts ledger.now [] }
+    requires met { IfSome met (λ marks. AreMet (providers_in ledger.now) (asked_in ledger.now)
+        s marks.now) }
     ensures { result ≡ (opens && (fits (providers_in ledger.now)
         (placed_at (asked_in ledger.now) s ix)
         && has_room_alone (providers_in ledger.now) (placed_at (asked_in ledger.now) s ix))) }
 {
-    opens && Placed::new(ledger.cloud, ledger.query, s, ix).fits() && ledger.has_enough(s, ix)
+    let placed = Placed::new(ledger.cloud, ledger.query, s, ix);
+    opens && fits(&placed, met) && ledger.has_enough(s, ix)
 }
 
 // The providers that meet the rules of a slot alone and have room for it, in order; none where not even the empty list is
 // open.
 #[tactic(auto, unfolding(crate::specs::QuerySearch::choice_of))]
-fn slot_choices(alloc: Global, ledger: &Ledger, s: usize, opens: bool) -> Result<Vec<u32>, NoMemory>
+fn slot_choices(
+    alloc: Global,
+    ledger: &Ledger,
+    s: usize,
+    opens: bool,
+    met: Option<&[bool]>,
+) -> Result<Vec<u32>, NoMemory>
     requires slot { s < length (slots_of (asked_in ledger.now)) }
     requires empty { Accounts ledger.now [] }
     requires opens { opens ≡ is_open (providers_in ledger.now) (asked_in ledger.now) [] }
+    requires met { IfSome met (λ marks. AreMet (providers_in ledger.now) (asked_in ledger.now)
+        s marks.now) }
     ensures { IfOk result (λ choices. choices.items ≡ choice_in ledger.now s) }
 {
-    let choices = (0..ledger.cloud.len()).filter(|ix| is_choice(ledger, s, *ix, opens));
+    let choices = (0..ledger.cloud.len()).filter(|ix| is_choice(ledger, s, *ix, opens, met));
     Ok(choices.collect(alloc)?)
 }
 
@@ -90,9 +164,12 @@ pub fn all_choices(alloc: Global, ledger: &Ledger) -> Result<Vec<Vec<u32>>, NoMe
         ≡ choices_in ledger.now) }
 {
     let opens = is_open(ledger.cloud, ledger.query, &[]);
+    let first = mark_first(alloc, ledger.cloud, ledger.query)?;
+    let first = first.as_deref();
     let mut all = Vec::new(alloc);
     for s in 0..count_slots(ledger.query) {
-        all.push(slot_choices(alloc, ledger, s, opens)?)?;
+        let met = marks_for(ledger.cloud, ledger.query, first, s);
+        all.push(slot_choices(alloc, ledger, s, opens, met)?)?;
     }
     Ok(all)
 }

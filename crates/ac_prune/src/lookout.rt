@@ -15,6 +15,7 @@ use crate::ledger::Ledger;
 use crate::look_ahead::LookAhead;
 use crate::trees::Trees;
 use crate::trees::groves::Groves;
+use crate::trees::wide::Wide;
 use crate::tuning::MOST_TESTS;
 use ac_base::NoMemory;
 use std::alloc::Global;
@@ -24,6 +25,7 @@ use std::alloc::Global;
 pub(crate) enum Test {
     Ahead(Ahead),
     Trees(Trees),
+    Wide(Wide),
     Hosts(Hosts),
     Collective(Collective),
     Family(Family),
@@ -36,6 +38,7 @@ impl LookAhead for Test {
         match self {
             Test::Ahead(test) => test.next(front, from),
             Test::Trees(test) => test.next(front, from),
+            Test::Wide(test) => test.next(front, from),
             Test::Hosts(test) => test.next(front, from),
             Test::Collective(test) => test.next(front, from),
             Test::Family(test) => test.next(front, from),
@@ -46,6 +49,7 @@ impl LookAhead for Test {
         match self {
             Test::Ahead(test) => test.may_follow(front, provider),
             Test::Trees(test) => test.may_follow(front, provider),
+            Test::Wide(test) => test.may_follow(front, provider),
             Test::Hosts(test) => test.may_follow(front, provider),
             Test::Collective(test) => test.may_follow(front, provider),
             Test::Family(test) => test.may_follow(front, provider),
@@ -95,6 +99,9 @@ impl Lookout {
         let mut tests = Vec::new(alloc);
         let groves = Groves::new(alloc, ledger.cloud)?;
         tests.push(Test::Ahead(Ahead::new(alloc, ledger, &groves)?))?;
+        if let Some(wide) = Wide::new(alloc, &choices, &groves)? {
+            tests.push(Test::Wide(wide))?;
+        }
         tests.push(Test::Trees(Trees::new(alloc, &choices, groves)?))?;
         tests.push(Test::Hosts(Hosts::new(alloc, &choices)?))?;
         tests.push(Test::Collective(Collective::new(alloc, &choices)?))?;

@@ -6,6 +6,7 @@ ghost use Rattle.ac_prune.specs.Trees.{AreGroves, AreByTree};
 
 pub mod by_tree;
 pub mod groves;
+pub mod wide;
 
 use crate::choices::Choices;
 use crate::front::Front;

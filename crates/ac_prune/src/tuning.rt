@@ -30,9 +30,9 @@ pub(crate) const WIDER: usize = 32;
 /// provider.
 pub(crate) const MOST_WANTED: usize = 16;
 
-/// How many tests there are: four, and one for each of 16 lists of `same_subtree`, since such a test costs memory for every provider; further
+/// How many tests there are: five, and one for each of 16 lists of `same_subtree`, since such a test costs memory for every provider; further
 /// lists are judged when all slots have a provider, as all are.
-pub(crate) const MOST_TESTS: usize = 20;
+pub(crate) const MOST_TESTS: usize = 21;
 
 /// How many pairs of a choice and a tree in which it is available are kept for a slot, or of a choice and a grove: two megabytes
 /// of them.

@@ -1,5 +1,5 @@
 -- Slots by their places, and their groups.
-use Rattle.std.proofs.Common.{◌≡◌, ℕ, ◌<◌, List, [], length, Option, Some, refl, slice_index_or, get_or, slice_get}
+use Rattle.std.proofs.Common.{◌≡◌, ℕ, ◌<◌, List, [], length, Option, Some, refl, sym, ap, ◌∙◌, slice_index_or, get_or, slice_get}
 use Rattle.std.specs.List.{AllByRecursion as Each}
 use Rattle.std.proofs.lemmas.Option.{slice_get-get_or, slice_get_within, get_or_from_slice_get}
 use Rattle.std.proofs.lemmas.List.Elements.{All-get_or, All-from_recursion}
@@ -24,6 +24,14 @@ pub slot_entry : (asked : Asked) (s : ℕ) (d : Option (List ℕ) × Group) → 
     → get_or asked.groups (slot_at asked s).place d ≡ ((slot_at asked s).suffix, (slot_at asked s).group)
 slot_entry asked s d h =
     get_or_from_slice_get asked.groups (slot_at asked s).place ((slot_at asked s).suffix, (slot_at asked s).group) d (group_there asked s h)
+
+-- the group of a slot, with its suffix; slots at whose places one stands have the same
+abbrev pub entry_at : Asked → ℕ → Option (List ℕ) × Group
+entry_at asked s = ((slot_at asked s).suffix, (slot_at asked s).group)
+
+pub one_group : (asked : Asked) (s t : ℕ) → s < length (slots_of asked) → t < length (slots_of asked) → (slot_at asked s).place ≡ (slot_at asked t).place → entry_at asked s ≡ entry_at asked t
+one_group asked s t h j same =
+    sym (slot_entry asked s (entry_at asked s) h) ∙ (ap (λ (i : ℕ). get_or asked.groups i (entry_at asked s)) same ∙ slot_entry asked t (entry_at asked s) j)
 
 -- whether a `same_subtree` lists a slot
 pub listed_at : (asked : Asked) (k s : ℕ) → k < length asked.subtrees → s < length (slots_of asked)

@@ -20,10 +20,10 @@ abbrev pub tail_of : {X : Type 0} → List X → List X
 tail_of [] = []
 tail_of (x ∷ xs) = xs
 
--- the list that a source lent, where it did
-abbrev pub lent : {E : Type 0} → Result (Option (Bor (List ℕ))) E → Option (List ℕ)
-lent (Ok list) = option_copied list
-lent (Err e) = None
+-- what a source answered, with the list that it lent
+abbrev pub lent : {E : Type 0} → Result (Option (Bor (List ℕ))) E → Result (Option (List ℕ)) E
+lent (Ok list) = Ok (option_copied list)
+lent (Err e) = Err e
 
 -- what a source has left behind its answer: where it stopped, all
 abbrev pub left_behind : {E X : Type 0} → Result X E → List (List ℕ) → List (List ℕ)

@@ -1,6 +1,6 @@
 //! The slots of a query, by their places.
 
-ghost use Rattle.std.specs.Prelude.{◌≡◌, ◌<◌, ◌≤◌, length, map, get_or, []};
+ghost use Rattle.std.specs.Prelude.{◌≡◌, ◌==◌, ◌<◌, ◌≤◌, length, map, get_or, []};
 ghost use Rattle.std.specs.Option.{is_some};
 ghost use Rattle.ac_query.specs.Asked.{slots_of, lists_suffix};
 ghost use Rattle.ac_query.specs.Shown.Groups.{need_entry, group_entry};
@@ -26,6 +26,16 @@ fn place_at(query: &Query, s: usize) -> usize
     ensures within { result < length (asked_of query.now).groups }
 {
     query.slots()[s].group()
+}
+
+/// Whether two slots are of one group.
+pub fn are_of_one_group(query: &Query, s: usize, other: usize) -> bool
+    requires slot { s < length (slots_of (asked_of query.now)) }
+    requires other { other < length (slots_of (asked_of query.now)) }
+    ensures { result ≡ ((slot_at (asked_of query.now) s).place
+        == (slot_at (asked_of query.now) other).place) }
+{
+    place_at(query, s) == place_at(query, other)
 }
 
 /// The group of a slot.

@@ -1,9 +1,10 @@
 //! What gives lists of providers, one after another.
-ghost use Rattle.std.specs.Prelude.{◌≡◌, ℕ, List, Option, IfOk, OnErr, ⊤};
+ghost use Rattle.std.specs.Prelude.{◌≡◌, ℕ, List, Option, Result, IfOk, OnErr, ⊤};
 ghost use Rattle.std.specs.Borrow.{sem};
 ghost use Rattle.std.specs.Option.{option_copied};
 ghost use Rattle.std.specs.Io.BufRead.{Rests};
 ghost use Rattle.ac_rules.specs.Lists.{PassesOver, head_of, left_behind, lent};
+ghost use Rattle.ac_rules.specs.declared.source.TooManyTries.{TooManyTries};
 
 use thiserror::Error;
 
@@ -20,8 +21,8 @@ pub trait Source {
     /// That it may stop before they are at their end.
     ghost may_stop: { Self → Type 0 } = { λ _. ⊥ };
 
-    /// What else a call does: from the source before, the list given, and the source afterwards.
-    ghost moves: { Self → Option (List ℕ) → Self → Type 0 } = { λ _ _ _. ⊤ };
+    /// What else a call does: from the source before, its answer, and the source afterwards.
+    ghost moves: { Self → Result (Option (List ℕ)) TooManyTries → Self → Type 0 } = { λ _ _ _. ⊤ };
 
     /// Lends the first list that is left, which is then gone; `None` where none is left, now and from then on. Where it stops, nothing is gone.
     fn next(&mut self) -> Result<Option<&[u32]>, TooManyTries>

@@ -237,13 +237,13 @@ impl<'a> Walk<'a> {
 }
 
 impl<'a> Source for Walk<'a> {
-    ghost use Rattle.ac_search.specs.Shown.Walk.{left_of, may_stop, Tries};
+    ghost use Rattle.ac_search.specs.Shown.Walk.{left_of, may_stop, Moves};
 
     ghost left = { left_of };
 
     ghost may_stop = { may_stop };
 
-    ghost moves = { Tries };
+    ghost moves = { Moves };
 
     fn next(&mut self) -> Result<Option<&[u32]>, TooManyTries> {
         if self.advance()? {

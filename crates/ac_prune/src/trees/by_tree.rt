@@ -93,7 +93,7 @@ fn first_keys(alloc: Global, keys: &[u64]) -> Result<Vec<usize>, NoMemory> {
 }
 
 impl Places {
-    ghost use Rattle.ac_prune.specs.Trees.{AreGroves, IsByPart, IsByTree};
+    ghost use Rattle.ac_prune.specs.Trees.{AreGroves, IsByGrove, IsByPart, IsByTree};
 
     // The places of so many choices, by their keys in any order.
     fn of_keys(alloc: Global, keys: Vec<u64>, count: usize) -> Result<Places, NoMemory>
@@ -135,6 +135,24 @@ impl Places {
         let mut keys = Vec::new(alloc);
         for (place, ix) in choices.iter().enumerate() {
             keys.push(key(parts[*ix as usize], place))?;
+        }
+        let places = Places::of_keys(alloc, keys, choices.len())?;
+        Ok(places)
+    }
+
+    /// The places of some choices by grove, by the groves of each provider.
+    pub(crate) fn by_grove(
+        alloc: Global,
+        of_providers: &[Vec<u32>],
+        choices: &[u32],
+    ) -> Result<Places, NoMemory>
+        requires few { length choices.now ≤ 65536 }
+        requires providers { All (λ p. p < length of_providers.now) choices.now }
+        ensures { IfOk result (λ places. IsByGrove of_providers.now choices.now places) }
+    {
+        let mut keys = Vec::new(alloc);
+        for (place, ix) in choices.iter().enumerate() {
+            push_keys(&mut keys, &of_providers[*ix as usize], place)?;
         }
         let places = Places::of_keys(alloc, keys, choices.len())?;
         Ok(places)
@@ -198,6 +216,24 @@ impl Places {
             let in_tree = self.next_in(*tree, from);
             let in_grove = self.next_in(grove_of(groves, *tree), from);
             least = least.min(in_tree).min(in_grove);
+        }
+        least
+    }
+
+    /// The least place from one on in some groves; past the end where there is none.
+    pub(crate) fn next_among(&self, groves: &[u32], from: usize) -> usize
+        requires { from ≤ self.now.count }
+        ensures kept { from ≤ result }
+        ensures within { result ≤ self.now.count }
+        ensures there { result < self.now.count
+            → list_any (λ g. is_there self.now.keys.items (key_of g result)) groves.now ≡ true }
+        ensures passed { (i : ℕ) → from ≤ i
+            → list_any (λ g. is_there self.now.keys.items (key_of g i)) groves.now ≡ true
+            → result ≤ i }
+    {
+        let mut least = self.count;
+        for grove in groves {
+            least = least.min(self.next_in(*grove, from));
         }
         least
     }

@@ -2,8 +2,8 @@
 
 ghost use Rattle.std.specs.Prelude.{◌≡◌, ◌<◌, ◌||◌, ℕ, true, length, slice_index, IfOk};
 ghost use Rattle.ac_cloud.specs.Cloud.CloudWorld.{providers_of, root_lists_of};
-ghost use Rattle.ac_cloud.specs.World.{is_available_at};
-ghost use Rattle.ac_prune.specs.Trees.{HaveGroves, AreGroves};
+ghost use Rattle.ac_cloud.specs.World.{anchors_of, is_available_at};
+ghost use Rattle.ac_prune.specs.Trees.{HaveGroves, HaveAllGroves, AreGroves};
 ghost use Rattle.ac_prune.specs.Trees.Keys.{is_there};
 
 use crate::tuning::{MOST_GROVES, MOST_PAIRS};
@@ -166,5 +166,46 @@ impl Groves {
             Some(list) => &self.of_lists[list as usize],
             None => trees,
         }
+    }
+
+    // The groves of a provider's trees.
+    fn of_provider(
+        &self,
+        alloc: Global,
+        cloud: &Cloud,
+        places: &mut Vec<usize>,
+        ix: u32,
+    ) -> Result<Vec<u32>, NoMemory>
+        requires groves { AreGroves (root_lists_of cloud.now) self.now }
+        requires provider { ix < length (providers_of cloud.now) }
+        ensures { IfOk result (λ groves. HaveGroves self.now.of_roots.items
+            (anchors_of (providers_of cloud.now) ix) groves.items) }
+    {
+        match cloud.root_list(ix) {
+            Some(list) => {
+                let mut groves = Vec::new(alloc);
+                groves.extend_from_slice(&self.of_lists[list as usize])?;
+                Ok(groves)
+            }
+            None => groves_of(alloc, &self.of_roots, places, cloud.anchors(ix)),
+        }
+    }
+
+    /// The groves of each provider's trees.
+    pub(crate) fn of_providers(
+        &self,
+        alloc: Global,
+        cloud: &Cloud,
+    ) -> Result<Vec<Vec<u32>>, NoMemory>
+        requires { AreGroves (root_lists_of cloud.now) self.now }
+        ensures { IfOk result (λ all. HaveAllGroves (providers_of cloud.now)
+            self.now.of_roots.items all.items) }
+    {
+        let mut places = Vec::new(alloc);
+        let mut all = Vec::new(alloc);
+        for ix in 0..cloud.len() {
+            all.push(self.of_provider(alloc, cloud, &mut places, ix)?)?;
+        }
+        Ok(all)
     }
 }

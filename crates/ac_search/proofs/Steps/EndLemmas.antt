@@ -171,7 +171,7 @@ stops_here w among spent = by w.most spent
     by (Some n) spent = let less = fewer in grind (arith, nat_tests)
 
 pub halts_here : (w : Walk) → place_in w < length (slot_in w) → is_spent (most_in w) w.probes ≡ true → Halts w w
-halts_here w among spent = record { stays = refl; may = stops_here w among spent }
+halts_here w among spent = record { stays = refl; may = stops_here w among spent; spent = spent }
 
 pub stops : (w u v : Walk) → Comes w u → Halts u v → Stops w v
-stops w u v a b = subst (Stops w) (sym b.stays) (record { may = may_same w u a.same b.may; left = a.left; tries = tries_end w u a })
+stops w u v a b = subst (Stops w) (sym b.stays) (record { may = may_same w u a.same b.may; left = a.left; spends = record { tries = tries_end w u a; spent = b.spent } })

@@ -3,7 +3,7 @@ use Rattle.std.specs.Prelude.{◌≡◌, ℕ, ◌+◌, ◌<◌, ◌≤◌, min, 
 use Rattle.ac_base.specs.Devices.{last_count, one_more}
 use Rattle.ac_prune.specs.Search.{next_at}
 use Rattle.ac_rules.specs.Lists.{PassesOver, lex_lt}
-use Rattle.ac_search.specs.Shown.Walk.{search_in, place_in, slot_in, front_in, path_in, left_of, changed, may_stop, IsSame, Tries}
+use Rattle.ac_search.specs.Shown.Walk.{search_in, place_in, slot_in, front_in, path_in, left_of, changed, is_spent, most_in, probes_in, may_stop, IsSame, Spends, Tries}
 use Rattle.ac_search.specs.declared.walk.Walk.{Walk}
 use Rattle.ac_search.specs.declared.walk.Step.{Step}
 use Rattle.ac_search.specs.declared.walk.Step.TheVariants.{Given, Went, Stopped, Ended}
@@ -65,10 +65,11 @@ pub record Ends (old new : Walk) : Type 0 where
   pub stays : new ≡ old
   pub nothing : left_of old ≡ []
 
--- it makes no more tries, and nothing is changed
+-- it has made as many tries as it may, and nothing is changed
 pub record Halts (old new : Walk) : Type 0 where
   pub stays : new ≡ old
   pub may : may_stop old
+  pub spent : is_spent (most_in old) (probes_in old) ≡ true
 
 abbrev pub StepGives : Step → Walk → Walk → Type 0
 StepGives Given old new = Gives old new
@@ -84,11 +85,11 @@ pub record Advances (old new : Walk) : Type 0 where
   pub head : left_of old ≡ new.path.items ∷ left_of new
   pub tries : Tries old (Some new.path.items) new
 
--- it may make no more tries, and nothing is lost
+-- it has made as many tries as it may, and nothing is lost
 pub record Stops (old new : Walk) : Type 0 where
   pub may : may_stop old
   pub left : left_of new ≡ left_of old
-  pub tries : Tries old None new
+  pub spends : Spends old new
 
 -- nothing is left
 pub record Finishes (old new : Walk) : Type 0 where

@@ -1,5 +1,5 @@
 -- What a walk searches, where it stands, and what it has left.
-use Rattle.std.specs.Prelude.{◌≡◌, ℕ, Bool, false, not, nat_lt, ◌+◌, ◌*◌, ◌<◌, ◌≤◌, ◌==◌, min, if◌then◌else◌, List, [], ◌∷◌, length, take, slice_index, Option, Some, None, IsSome, IfSome}
+use Rattle.std.specs.Prelude.{◌≡◌, ℕ, Bool, false, true, not, nat_lt, ◌+◌, ◌*◌, ◌<◌, ◌≤◌, ◌==◌, min, if◌then◌else◌, List, [], ◌∷◌, length, take, slice_index, Option, Some, None, IsSome, IfSome, Result, Ok, Err}
 use Rattle.std.specs.Option.{option_map}
 use Rattle.ac_base.specs.Devices.{last_count, Rises}
 use Rattle.ac_query.specs.Asked.{Asked}
@@ -91,6 +91,16 @@ pub record Tries (old : Walk) (given : Option (List ℕ)) (new : Walk) : Type 0 
   pub rises : IsSome given → Rises (probes_in old) (probes_in new)
   pub last : IfSome given (λ y. given_in new ≡ Some y)
   pub tried : IfSome given (λ y. min (probes_in old + changed (given_in old) y) last_count ≤ probes_in new)
+
+-- a call that stops: it has made as many tries as it may
+pub record Spends (old new : Walk) : Type 0 where
+  pub tries : Tries old None new
+  pub spent : is_spent (most_in new) (probes_in new) ≡ true
+
+-- what a call of `next` does besides, by its answer
+abbrev pub Moves : {E : Type 0} → Walk → Result (Option (List ℕ)) E → Walk → Type 0
+Moves old (Ok given) new = Tries old given new
+Moves old (Err e) new = Spends old new
 
 -- ---- Private: where it stands
 
