@@ -1,20 +1,23 @@
 -- Which marks of roots stay by the traits that the group without a suffix requires.
-use Rattle.std.proofs.Common.{◌≡◌, ◌∙◌, ◌<◌, ℕ, ◌+◌, Bool, true, false, ◌&&◌, ◌||◌, List, [], ◌∷◌, length, map, take, get_or, slice_index, slice_index_or, Option, Some, None, refl, sym, ap, arith}
+use Rattle.std.proofs.Common.{◌≡◌, ◌∙◌, ◌<◌, ℕ, ◌+◌, zero, suc, Bool, true, false, ◌&&◌, ◌||◌, List, [], ◌∷◌, length, map, take, get_or, slice_index, slice_index_or, Option, Some, None, refl, sym, ap, arith}
 use Rattle.std.specs.Prelude.{if◌then◌else◌}
-use Rattle.std.specs.List.{list_all, list_any, range_with_len}
+use Rattle.std.specs.List.{All, filter, list_all, list_any, range_with_len}
 use Rattle.std.specs.Option.{is_some}
 use Rattle.std.proofs.Math.Bool.{and-true}
-use Rattle.std.proofs.lemmas.Bool.{false≢true}
+use Rattle.std.proofs.lemmas.Bool.{cases_Bool, false≢true}
+use Rattle.std.proofs.lemmas.List.Elements.{All-from_recursion}
 use Rattle.std.proofs.lemmas.List.Folds.{list_all_more}
 use Rattle.std.proofs.lemmas.List.FromFn.{fill_by_all, get_or-map-range_with_len, length-map-range_with_len}
 use Rattle.ac_query.specs.Asked.{Asked, Group, slots_of}
-use Rattle.ac_cloud.specs.World.{Provider, provider_at, has_trait}
+use Rattle.ac_cloud.specs.World.{Provider, provider_at, has_trait, is_available_at}
 use Rattle.ac_prune.specs.Ahead.{hosts_of}
 use Rattle.ac_prune.specs.Loads.{AreLimited}
 use Rattle.ac_rules.specs.Own.{has_any}
 use Rattle.ac_find.specs.Explained.{are_held, has_each_slot, holds_required, is_held, is_one_held, serves_unsuffixed}
-use Rattle.ac_find.specs.Shown.Explained.{AreKept, holding, requires_some, served_roots}
+use Rattle.ac_find.specs.Shown.Explained.{AreKept, holding, holds_each, requires_some, served_roots, serving, some_has}
 use Rattle.ac_prune.proofs.Roots.RootLemmas.{hosts_low}
+use Rattle.ac_rules.proofs.Elements.{each_filter, each_weaker}
+use Rattle.ac_rules.proofs.EachSlot.AnchorLemmas.{each_range}
 use Rattle.ac_find.proofs.ExplainedLemmas.{reaches}
 
 -- ---- Marks that stay
@@ -69,6 +72,40 @@ one_held s t (p ∷ ps) = grind (arith, one_held s t ps)
 
 pub held_alone : (all : List Provider) (asked : Asked) (r : ℕ) (name : List ℕ) → is_one_held all asked r (name ∷ []) ≡ is_held all asked r name
 held_alone all asked r name = one_held (serves_unsuffixed all asked) (λ p. has_trait (provider_at all p) name) (hosts_of all r)
+
+-- by those that serve and are available there
+any_kept : (s a t : ℕ → Bool) (ps : List ℕ) → list_any t (filter (λ p. s p && a p) ps) ≡ list_any (λ p. s p && t p) (filter a ps)
+any_kept s a t [] = refl
+any_kept s a t (p ∷ ps) = grind (arith, cases_Bool, any_kept s a t ps)
+
+all_alike : {X : Type 0} (f g : X → Bool) (xs : List X) → ((x : X) → f x ≡ g x) → list_all f xs ≡ list_all g xs
+all_alike f g [] same = refl
+all_alike f g (x ∷ xs) same = ap (λ b. b && list_all f xs) (same x) ∙ ap (λ b. g x && b) (all_alike f g xs same)
+
+pub held_by_each : (all : List Provider) (asked : Asked) (r : ℕ) (names : List (List ℕ)) → list_all (some_has all (serving all asked r)) names ≡ holds_each all asked names r
+unfolding hosts_of
+held_by_each all asked r names =
+    all_alike _ _ names (λ name. any_kept (serves_unsuffixed all asked) (λ p. is_available_at all p r) (λ p. has_trait (provider_at all p) name) (range_with_len 0 (length all)))
+
+pub serving_low : (all : List Provider) (asked : Asked) (r : ℕ) → All (λ p. p < length all) (serving all asked r)
+serving_low all asked r =
+    let places = range_with_len 0 (length all) in
+    let test = λ (p : ℕ). serves_unsuffixed all asked p && is_available_at all p r in
+    All-from_recursion (λ p. p < length all) (filter test places) (each_weaker _ (λ p. p < length all) (filter test places) (λ p h. h.1) (each_filter (λ p. p < length all) test places (each_range 0 (length all) (length all) (omega arith))))
+
+-- the front of what all is tested for
+front_implied : {X : Type 0} (f : X → Bool) (i : ℕ) (xs : List X) → (list_all f (take i xs) && list_all f xs) ≡ list_all f xs
+front_implied f zero xs = refl
+front_implied f (suc i) [] = refl
+front_implied f (suc i) (x ∷ xs) = grind (arith, cases_Bool, front_implied f i xs)
+
+-- by the front of a list, and then by all of it
+pub kept_whole : {X Y : Type 0} (all : List Provider) (test : ℕ → Y → Bool) (view : X → Y) (xs : List X) (i : ℕ) (old mid new : List Bool)
+    → AreKept all (λ r. list_all (test r) (map view (take i xs))) old mid → AreKept all (λ r. list_all (test r) (map view xs)) mid new → AreKept all (λ r. list_all (test r) (map view xs)) old new
+kept_whole all test view xs i old mid new front whole =
+    kept_same all (λ r. list_all (test r) (map view (take i xs)) && list_all (test r) (map view xs)) (λ r. list_all (test r) (map view xs)) old new
+    (λ r. ap (λ b. b && list_all (test r) (map view xs)) (all_map (test r) view (take i xs)) ∙ (ap (λ b. list_all (λ x. test r (view x)) (take i xs) && b) (all_map (test r) view xs) ∙ (front_implied (λ x. test r (view x)) i xs ∙ sym (all_map (test r) view xs))))
+    (kept_both all (λ r. list_all (test r) (map view (take i xs))) (λ r. list_all (test r) (map view xs)) old mid new front whole)
 
 -- a group that requires something
 pub held_there : (all : List Provider) (asked : Asked) (r : ℕ) (suffix : Option (List ℕ)) (g : Group) → requires_some suffix g ≡ true → are_held all asked r g ≡ (is_some suffix || are_held all asked r g)

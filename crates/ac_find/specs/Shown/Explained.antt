@@ -1,12 +1,12 @@
 -- The counts of an explanation, as the code holds them.
 use Rattle.std.specs.Prelude.{◌≡◌, ℕ, ◌<◌, ◌&&◌, Bool, false, not, List, length, map, slice_index_or, Option, if◌then◌else◌}
-use Rattle.std.specs.List.{list_all, filter, range_with_len}
+use Rattle.std.specs.List.{list_all, list_any, filter, range_with_len}
 use Rattle.std.specs.Option.{is_none}
 use Rattle.ac_query.specs.Asked.{Asked, Group, Slot}
-use Rattle.ac_cloud.specs.World.{Provider, provider_at}
+use Rattle.ac_cloud.specs.World.{Provider, has_trait, is_available_at, provider_at}
 use Rattle.ac_rules.specs.Own.{has_any}
 use Rattle.ac_rules.specs.Together.{is_empty, takes_root}
-use Rattle.ac_find.specs.Explained.{SlotCounts, SlotTold, TreeCounts, in_slot, is_served, meets_room, meets_tree, serves_unsuffixed}
+use Rattle.ac_find.specs.Explained.{SlotCounts, SlotTold, TreeCounts, in_slot, is_held, is_served, meets_room, meets_tree, serves_unsuffixed}
 use Rattle.ac_find.specs.declared.counts.SlotCounts as slot
 use Rattle.ac_find.specs.declared.counts.TreeCounts as trees
 use Rattle.ac_find.specs.declared.counts.classes.SlotTold as told
@@ -41,6 +41,18 @@ served_roots all asked slots = map (λ r. takes_root all asked r && list_all (λ
 -- the providers that meet all that some slot without a suffix asks
 abbrev pub unsuffixed : List Provider → Asked → List Bool
 unsuffixed all asked = map (serves_unsuffixed all asked) (range_with_len 0 (length all))
+
+-- those that are available in the tree of a root
+abbrev pub serving : List Provider → Asked → ℕ → List ℕ
+serving all asked r = filter (λ p. serves_unsuffixed all asked p && is_available_at all p r) (range_with_len 0 (length all))
+
+-- one of some providers has a trait
+abbrev pub some_has : List Provider → List ℕ → List ℕ → Bool
+some_has all list name = list_any (λ p. has_trait (provider_at all p) name) list
+
+-- each of some traits is held at a root
+abbrev pub holds_each : List Provider → Asked → List (List ℕ) → ℕ → Bool
+holds_each all asked names r = list_all (λ name. is_held all asked r name) names
 
 -- 1 for each of them that has one of these traits, and else 0
 abbrev pub holding : List Provider → Asked → List (List ℕ) → List ℕ

@@ -1,7 +1,7 @@
 //! The traits that the group without a suffix requires: at which roots they are held by providers that its slots may have.
 
-ghost use Rattle.std.specs.Prelude.{◌≡◌, ◌<◌, ◌&&◌, ◌||◌, IfOk, length, map};
-ghost use Rattle.std.specs.List.{list_all};
+ghost use Rattle.std.specs.Prelude.{◌≡◌, ◌<◌, ◌&&◌, ◌||◌, IfOk, false, length, map, slice_index_or};
+ghost use Rattle.std.specs.List.{All, list_all, range_with_len};
 ghost use Rattle.std.specs.List.Sorted.{IsStrictlySortedBy};
 ghost use Rattle.std.specs.Option.{is_some};
 ghost use Rattle.ac_base.specs.Names.{trait_bytes};
@@ -11,8 +11,8 @@ ghost use Rattle.ac_query.specs.Shown.Groups.{any_of_shown, group_asked, suffix_
 ghost use Rattle.ac_query.specs.Shown.Queries.{asked_of};
 ghost use Rattle.ac_cloud.specs.World.{provider_at};
 ghost use Rattle.ac_rules.specs.Own.{has_any};
-ghost use Rattle.ac_find.specs.Explained.{are_held, holds_required, is_held, is_one_held, serves_unsuffixed};
-ghost use Rattle.ac_find.specs.Shown.Explained.{AreKept, holding, requires_some, unsuffixed};
+ghost use Rattle.ac_find.specs.Explained.{are_held, holds_required, is_one_held, serves_unsuffixed};
+ghost use Rattle.ac_find.specs.Shown.Explained.{AreKept, holding, holds_each, requires_some, serving, some_has, unsuffixed};
 
 use super::serves;
 use ac_base::{NoMemory, TraitName};
@@ -24,6 +24,14 @@ use ac_rules::rules::traits::has_any;
 use ac_rules::slots::{count_slots, group_at};
 use std::alloc::Global;
 use std::slice;
+
+// At how many roots it pays to look one by one.
+const FEW: usize = 4;
+
+// Whether few roots are marked.
+fn are_few(marks: &[bool]) -> bool {
+    marks.iter().filter(|mark| **mark).count() <= FEW
+}
 
 // Whether a provider meets all that some slot without a suffix asks, room included.
 fn serves_unsuffixed(cloud: &Cloud, query: &Query, ix: u32) -> bool
@@ -45,6 +53,33 @@ fn mark_unsuffixed(alloc: Global, cloud: &Cloud, query: &Query) -> Result<Vec<bo
 {
     let marks = (0..cloud.len()).map(|ix| serves_unsuffixed(cloud, query, ix));
     Ok(marks.collect(alloc)?)
+}
+
+// Providers of a cloud.
+#[derive(Drop)]
+struct Serving<'a> {
+    cloud: &'a Cloud,
+    places: Vec<u32>,
+    ghost inside: { All (λ p. p < length (providers_of cloud.now)) places.items },
+}
+
+impl<'a> Serving<'a> {
+    // Whether one of them has a trait.
+    fn some_has(&self, name: &TraitName) -> bool
+        ensures { result ≡ some_has (providers_of self.now.cloud.now) self.now.places.items
+            (trait_bytes name.now) }
+    {
+        self.places.iter().any(|ix| self.cloud.has_trait(*ix, name))
+    }
+
+    // Whether of each of these traits one of them has it.
+    fn have_each(&self, names: &[TraitName]) -> bool
+        ensures { result
+            ≡ list_all (some_has (providers_of self.now.cloud.now) self.now.places.items)
+            (map trait_bytes names.now) }
+    {
+        names.iter().all(|name| self.some_has(name))
+    }
 }
 
 // The providers that meet all that some slot without a suffix asks.
@@ -121,6 +156,99 @@ impl<'a> Unsuffixed<'a> {
         limit(alloc, self.cloud, marks, &holding, 1)
     }
 
+    // The places of those of them that are available at a root.
+    fn places_at(&self, alloc: Global, root: u32) -> Result<Vec<u32>, NoMemory>
+        requires { root < length (providers_of self.now.cloud.now) }
+        ensures { IfOk result (λ list. list.items
+            ≡ serving (providers_of self.now.cloud.now) (asked_of self.now.query.now) root) }
+    {
+        let list = (0..self.cloud.len()).filter(|ix| self.has(*ix)
+            && self.cloud.available(*ix, root));
+        Ok(list.collect(alloc)?)
+    }
+
+    // Those of them that are available at a root.
+    #[tactic(auto, using(crate::proofs::RequiredLemmas::serving_low))]
+    fn at_root(&self, alloc: Global, root: u32) -> Result<Serving<'a>, NoMemory>
+        requires { root < length (providers_of self.now.cloud.now) }
+        ensures cloud { IfOk result (λ at. at.cloud ≡ self.now.cloud) }
+        ensures places { IfOk result (λ at. at.places.items
+            ≡ serving (providers_of self.now.cloud.now) (asked_of self.now.query.now) root) }
+    {
+        let places = self.places_at(alloc, root)?;
+        Ok(Serving {
+            cloud: self.cloud,
+            places,
+        })
+    }
+
+    // Whether each of these traits is held at a root.
+    fn holds_each(&self, alloc: Global, root: u32, names: &[TraitName]) -> Result<bool, NoMemory>
+        requires { root < length (providers_of self.now.cloud.now) }
+        ensures { IfOk result (λ held. held ≡ holds_each (providers_of self.now.cloud.now)
+            (asked_of self.now.query.now) (map trait_bytes names.now) root) }
+    {
+        Ok(self.at_root(alloc, root)?.have_each(names))
+    }
+
+    // Whether a root is marked, and each of these traits is held there.
+    fn stays(
+        &self,
+        alloc: Global,
+        root: u32,
+        names: &[TraitName],
+        marks: &[bool],
+    ) -> Result<bool, NoMemory>
+        requires root { root < length (providers_of self.now.cloud.now) }
+        requires marks { length marks.now ≡ length (providers_of self.now.cloud.now) }
+        ensures { IfOk result (λ stays. stays ≡ (slice_index_or marks.now root false
+            && holds_each (providers_of self.now.cloud.now) (asked_of self.now.query.now)
+            (map trait_bytes names.now) root)) }
+    {
+        if marks[root as usize] {
+            self.holds_each(alloc, root, names)
+        } else {
+            Ok(false)
+        }
+    }
+
+    // The marks of the roots at which each of these traits is held, looked at one by one.
+    fn few_marks(
+        &self,
+        alloc: Global,
+        names: &[TraitName],
+        marks: &[bool],
+    ) -> Result<Vec<bool>, NoMemory>
+        requires { length marks.now ≡ length (providers_of self.now.cloud.now) }
+        ensures { IfOk result (λ few. few.items ≡ map (λ r. slice_index_or marks.now r false
+            && holds_each (providers_of self.now.cloud.now) (asked_of self.now.query.now)
+            (map trait_bytes names.now) r)
+            (range_with_len 0 (length (providers_of self.now.cloud.now)))) }
+    {
+        let mut few = Vec::new(alloc);
+        for root in 0..self.cloud.len() {
+            few.push(self.stays(alloc, root, names, marks)?)?;
+        }
+        Ok(few)
+    }
+
+    // Drops the roots at which one of these traits isn't held, where few are left.
+    fn limit_few(
+        &self,
+        alloc: Global,
+        names: &[TraitName],
+        marks: &mut [bool],
+    ) -> Result<(), NoMemory>
+        requires { length marks.old ≡ length (providers_of self.now.cloud.now) }
+        ensures { IfOk result (λ _. AreKept (providers_of self.now.cloud.now)
+            (holds_each (providers_of self.now.cloud.now) (asked_of self.now.query.now)
+            (map trait_bytes names.now)) marks.old marks.new) }
+    {
+        let few = self.few_marks(alloc, names, marks)?;
+        marks.copy_from_slice(&few);
+        Ok(())
+    }
+
     // Drops the roots at which one of these traits isn't held.
     fn limit_each(
         &self,
@@ -130,11 +258,13 @@ impl<'a> Unsuffixed<'a> {
     ) -> Result<(), NoMemory>
         requires { length marks.old ≡ length (providers_of self.now.cloud.now) }
         ensures { IfOk result (λ _. AreKept (providers_of self.now.cloud.now)
-            (λ r. list_all
-            (λ name. is_held (providers_of self.now.cloud.now) (asked_of self.now.query.now) r name)
+            (holds_each (providers_of self.now.cloud.now) (asked_of self.now.query.now)
             (map trait_bytes names.now)) marks.old marks.new) }
     {
         for name in names {
+            if are_few(marks) {
+                return self.limit_few(alloc, names, marks);
+            }
             self.limit_names(alloc, slice::from_ref(name), marks)?;
         }
         Ok(())

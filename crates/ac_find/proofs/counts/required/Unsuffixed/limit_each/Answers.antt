@@ -8,7 +8,8 @@ use Rattle.ac_base.specs.declared.name.TraitName.{TraitName}
 use Rattle.ac_query.specs.Shown.Queries.{asked_of}
 use Rattle.ac_cloud.specs.Cloud.CloudWorld.{providers_of}
 use Rattle.ac_find.specs.Explained.{is_held, is_one_held}
-use Rattle.ac_find.proofs.RequiredLemmas.{held_alone, kept_all, kept_more, kept_same}
+use Rattle.ac_prune.proofs.Roots.RootLemmas.{if_ok}
+use Rattle.ac_find.proofs.RequiredLemmas.{held_alone, kept_all, kept_more, kept_same, kept_whole}
 use Rattle.ac_find.proofs.counts.required.Unsuffixed.limit_each.Goals as goal
 
 -- one name alone rises
@@ -34,6 +35,14 @@ loop-name-preserved c =
     ∙ held_alone all asked r (trait_bytes c.name-item.result)
     ∙ ap (λ (n : TraitName). is_held all asked r (trait_bytes n)) c.name-item.is)
     c.in_ok-limit_names.ensures)
+
+pub returns-then-are_few : goal.returns-then-are_few
+returns-then-are_few c =
+    let all = providers_of c.args.self.now.cloud.now in
+    let asked = asked_of c.args.self.now.query.now in
+    if_ok _ _ c.limit_few.result
+    (λ _ is. kept_whole all (λ (r : ℕ) (name : List ℕ). is_held all asked r name) trait_bytes c.args.names.now c.loop-name.name-index c.args.marks.now c.loop-name.marks c.limit_few.new.marks c.loop-name.invariant is)
+    c.limit_few.ensures
 
 pub returns : goal.returns
 returns c =
