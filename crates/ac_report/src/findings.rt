@@ -6,9 +6,7 @@ mod lacks;
 mod question;
 mod why_rows;
 
-pub use explanation::{
-    FoundWithout, explanation_status, find_without, has_candidate, push_explanation, push_reasons,
-};
+pub use explanation::{FoundWithout, Told, explanation_status, find_without, has_candidate};
 pub use host_rows::{hosts_status, hosts_text};
 pub use question::Question;
 pub use why_rows::{root_place, why_at};

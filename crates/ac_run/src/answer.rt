@@ -25,8 +25,8 @@ use ac_base::{NoMemory, Sink};
 use ac_find::{all_slots, broken_detail, find_lacks, tree_counts};
 use ac_query::{Query, Token};
 use ac_report::findings::{
-    Question, explanation_status, find_without, has_candidate, hosts_status, hosts_text,
-    push_explanation, push_reasons, root_place, why_at,
+    Question, Told, explanation_status, find_without, has_candidate, hosts_status, hosts_text,
+    root_place, why_at,
 };
 use ac_report::{PageFault, write_list, write_shown_page, write_tokens};
 use ac_rules::{Assignment, InCloud, Rule, Verdict, verify};
@@ -238,8 +238,15 @@ fn write_explanation<W: Sink>(
     let trees = tree_counts(alloc, cloud, query)?;
     let found = has_candidate(alloc, cloud, query, &trees, tries)?;
     let without = find_without(alloc, cloud, question, &trees, found, tries)?;
-    push_explanation(out, cloud, query, &slots, &trees, found)?;
-    push_reasons(out, cloud, query, &without)?;
+    let told = Told {
+        cloud,
+        query,
+        slots: &slots,
+        trees: &trees,
+        found,
+    };
+    told.push_counts(out)?;
+    told.push_reasons(out, &without)?;
     Ok(explanation_status(found))
 }
 

@@ -1,17 +1,18 @@
 -- An explanation, need by need and slot by slot.
-use Rattle.std.proofs.Common.{inl, inr, ◌≡◌, ◌∙◌, ℕ, suc, ◌+◌, ◌-◌, ◌<◌, ◌≤◌, List, ◌++◌, get_or, length, map, Option, subst, sym, ap, arith}
-use Rattle.std.specs.List.{flat_map, range_with_len}
+use Rattle.std.proofs.Common.{inl, inr, ◌≡◌, ◌∙◌, ℕ, suc, ◌+◌, ◌-◌, ◌<◌, ◌≤◌, ◌==◌, Bool, List, [], ◌∷◌, ◌++◌, get_or, length, map, Option, refl, rules, subst, sym, ap, arith}
+use Rattle.std.specs.List.{flat_map, position, position_or_len, range_with_len}
 use Rattle.std.proofs.lemmas.Bool.{cases_Bool}
 use Rattle.std.proofs.lemmas.List.{get_or-map, length-map}
 use Rattle.ac_query.specs.Asked.{Asked, Slot, slots_of}
 use Rattle.ac_cloud.specs.World.{Provider}
 use Rattle.ac_rules.specs.Placed.{no_slot, slot_at}
-use Rattle.ac_find.specs.Explained.{class_room, is_short, slot_told}
+use Rattle.ac_find.specs.Explained.{SlotTold, class_room, is_short, slot_told}
 use Rattle.ac_find.specs.Shown.Explained.{slot_shown}
 use Rattle.ac_find.specs.declared.counts.classes.SlotTold as rust
 use Rattle.std.specs.Prelude.{Result, Ok, Err}
 use Rattle.std.specs.Result.{IsErrAnd}
 use Rattle.ac_base.specs.Writing.{Pushes}
+use Rattle.ac_report.specs.Findings.Explanation.{first_empty}
 use Rattle.ac_report.proofs.FoundTexts.Begun.{IsBegun, begun_more, begun_stops}
 
 -- ---- what is pushed at each place below n, in order
@@ -55,3 +56,15 @@ rooms_few all slot = elim (cases_Bool (is_short all slot)) [
   | inl e ↦ rw e (omega (arith, length-map slot.needs (class_room all slot)))
   | inr e ↦ rw e (omega arith)
 ]
+
+-- ---- the first slot that no provider serves
+
+places_mapped : {X Y : Type 0} (test : Y → Bool) (e : X → Y) (xs : List X) → position_or_len test (map e xs) ≡ position_or_len (λ x. test (e x)) xs
+places_mapped test e [] = refl
+places_mapped test e (x ∷ xs) = search (rules, places_mapped test e xs)
+
+pub empty_told : (slots : List rust.SlotTold) → position (λ (t : rust.SlotTold). t.counts.room == 0) slots ≡ first_empty (map slot_shown slots)
+empty_told slots =
+    let same = places_mapped (λ (t : SlotTold). t.counts.room == 0) slot_shown slots in
+    let size = length-map slots slot_shown in
+    search (rules, same, size)

@@ -1,15 +1,15 @@
 -- The text of an explanation: a line for each slot, one for the trees, what nobody has, whether there is a candidate; where there is none, whether
--- there would be one without one of the things that are asked of several slots together; and where the service may answer otherwise.
+-- there would be one without one of the things that are asked of several slots together, and why there is none; and where the service may answer otherwise.
 pub mod Candidates
 pub mod Differing
 pub mod Nobody
 pub mod Shown
-use Rattle.std.specs.Prelude.{ℕ, ◌+◌, ◌==◌, Bool, true, false, if◌then◌else◌, List, [], ◌∷◌, ◌++◌, get_or, length, codes}
+use Rattle.std.specs.Prelude.{ℕ, ◌+◌, ◌==◌, Bool, true, false, if◌then◌else◌, List, [], ◌∷◌, ◌++◌, get_or, length, map, codes, position, Option, None, Some}
 use Rattle.std.specs.Fmt.{decimal}
 use Rattle.std.specs.List.{flat_map, range_with_len}
 use Rattle.ac_query.specs.Asked.{Asked, Slot, slots_of}
 use Rattle.ac_cloud.specs.World.{Provider}
-use Rattle.ac_find.specs.Explained.{SlotCounts, SlotTold, TreeCounts, slot_told, tree_counts}
+use Rattle.ac_find.specs.Explained.{SlotCounts, SlotTold, TreeCounts, slot_counts, slot_told, tree_counts}
 use Rattle.ac_rules.specs.Placed.{slot_at}
 use Rattle.ac_rules.specs.Together.{is_empty}
 use Rattle.ac_report.specs.Findings.Explanation.Candidates.{candidates_line, found_without, without_lines}
@@ -71,6 +71,49 @@ trees_line c =
     (codes "trees " ∷ decimal c.roots ∷ codes ": root traits " ∷ decimal c.root_traits ∷ codes ", each slot " ∷ decimal c.each_slot
     ∷ codes ", required traits " ∷ decimal c.required_traits ∷ newline ∷ [])
 
+-- ---- Why there is no candidate, in one sentence: by the first of these numbers that is 0
+
+-- what none of those does that the number before counts
+abbrev pub failing : SlotCounts → List ℕ
+failing c =
+    if c.units == 0 then codes " gives it\n" else if c.traits == 0 then codes " has its traits\n" else if c.aggregates == 0 then codes " is in its aggregates\n"
+    else if c.tree == 0 then codes " is in its tree\n" else codes " has room for it\n"
+
+-- the last number of a slot that isn't 0, or else how many providers there are
+abbrev pub last_counted : ℕ → SlotCounts → ℕ
+last_counted providers c =
+    if c.units == 0 then providers else if c.traits == 0 then c.units else if c.aggregates == 0 then c.traits else if c.tree == 0 then c.aggregates else c.tree
+
+unfoldable pub fallen_text : ℕ → SlotCounts → List ℕ
+fallen_text providers c = said (codes ": none of " ∷ decimal (last_counted providers c) ∷ failing c ∷ [])
+
+-- the first slot that no provider serves, by its place
+abbrev pub first_empty : List SlotTold → Option ℕ
+first_empty told = position (λ t. t.counts.room == 0) told
+
+unfoldable pub because : List ℕ
+because = codes "because "
+
+-- a slot that no provider serves, and at which of its tests all fail
+abbrev pub slot_reason : ℕ → ℕ → Slot → SlotCounts → List ℕ
+slot_reason providers number slot c = because ++ ((slot_name number slot ++ needs_text slot.needs) ++ fallen_text providers c)
+
+-- where each slot is served by some provider: what no root has
+abbrev pub trees_reason : TreeCounts → List ℕ
+trees_reason c =
+    if c.root_traits == 0 then codes "because no root has the traits that are asked of it\n"
+    else if c.each_slot == 0 then codes "because no root has a provider for each slot\n"
+    else if c.required_traits == 0 then codes "because no root has all required traits\n" else codes "because no providers for the slots go together\n"
+
+abbrev pub reason : List Provider → Asked → Option ℕ → List ℕ
+reason all asked (Some s) = slot_reason (length all) (s + 1) (slot_at asked s) (slot_counts all (slot_at asked s))
+reason all asked None = trees_reason (tree_counts all asked)
+
+-- the sentence; none where there is a candidate
+unfoldable pub because_line : List Provider → Asked → Bool → List ℕ
+because_line all asked true = []
+because_line all asked false = reason all asked (first_empty (map (slot_told all) (slots_of asked)))
+
 -- ---- The explanation
 
 -- how far the query comes, up to whether there is a candidate
@@ -79,7 +122,8 @@ told_text all asked found =
     slot_lines all asked ++ (trees_line (tree_counts all asked) ++ (nobody_lines all asked ++ candidates_line found))
 
 unfoldable pub explanation_text : List Provider → Asked → Bool → List ℕ
-explanation_text all asked found = told_text all asked found ++ (without_lines asked (found_without all asked found) ++ differs_lines all asked)
+explanation_text all asked found =
+    told_text all asked found ++ (without_lines asked (found_without all asked found) ++ (because_line all asked found ++ differs_lines all asked))
 
 abbrev pub explanation_status : Bool → ℕ
 explanation_status true = 0

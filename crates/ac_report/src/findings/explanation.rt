@@ -1,6 +1,7 @@
 //! How far a query comes, told without memory: a line for each slot, one for the trees, what nobody has, whether there is a candidate; where there is
-//! none, whether there would be one without one of the things that are asked of several slots together; and where the service may answer otherwise.
+//! none, whether there would be one without one of the things that are asked of several slots together, and why; and where the service may answer otherwise.
 
+mod because;
 mod differences;
 mod nobody;
 mod without;
@@ -13,7 +14,7 @@ ghost use Rattle.ac_query.specs.Shown.Queries.{asked_of};
 ghost use Rattle.ac_find.specs.Explained.{slot_told, tree_counts};
 ghost use Rattle.ac_find.specs.Shown.Explained.{slot_counted as counts_shown, slot_shown, trees_counted as trees_shown};
 ghost use Rattle.ac_rules.specs.Placed.{slot_at};
-ghost use Rattle.ac_report.specs.Findings.Explanation.{each_room, explanation_status, need_text, needs_text, room_mark, room_text, slot_counted, slot_end, slot_line, slot_lines, slot_name, trees_line};
+ghost use Rattle.ac_report.specs.Findings.Explanation.{because_line, each_room, explanation_status, need_text, needs_text, room_mark, room_text, slot_counted, slot_end, slot_line, slot_lines, slot_name, told_text, trees_line};
 ghost use Rattle.ac_report.specs.Findings.Explanation.Candidates.{candidates_line, has_candidate, without_lines};
 ghost use Rattle.ac_report.specs.Findings.Explanation.Differing.{differs_lines};
 ghost use Rattle.ac_report.specs.Findings.Explanation.Nobody.{nobody_lines};
@@ -22,6 +23,7 @@ ghost use Rattle.ac_base.specs.Writing.{Pushes};
 ghost use Rattle.ac_search.specs.Shown.Walk.{MayStop};
 ghost use Rattle.ac_search.specs.declared.fault.SearchFault.TheVariants as fault;
 
+use self::because::push_because;
 use self::differences::push_differences;
 use self::nobody::push_missing;
 use self::without::push_without;
@@ -255,45 +257,65 @@ fn candidates_line(found: bool) -> &'static [u8]
     }
 }
 
-/// Pushes what stands behind the counts: whether there is a candidate without one thing, and where the service may answer otherwise.
-#[tactic(auto, using(ac_base::proofs::Leaving::behind))]
-pub fn push_reasons<W: Sink>(
-    out: &mut W,
-    cloud: &Cloud,
-    query: &Query,
-    without: &FoundWithout,
-) -> Result<(), WriteFailed>
-    requires { length (found_shown without.now).subtrees ≤ length (asked_of query.now).subtrees }
-    ensures { Pushes W.taken W.failures out.old out.new result
-        (without_lines (asked_of query.now) (found_shown without.now)
-        ++ differs_lines (providers_of cloud.now) (asked_of query.now)) }
-{
-    push_without(out, query, without)?;
-    push_differences(out, cloud, query)
+/// What was found of a query before a candidate is searched for, and whether there is one.
+#[derive(Clone, Copy)]
+pub struct Told<'a> {
+    pub cloud: &'a Cloud,
+    pub query: &'a Query,
+    pub slots: &'a [SlotTold],
+    pub trees: &'a TreeCounts,
+    pub found: bool,
+    ghost slots_told: { map slot_shown slots.now ≡ map (slot_told (providers_of cloud.now)) (slots_of (asked_of query.now)) },
+    ghost trees_told: { trees_shown trees.now ≡ tree_counts (providers_of cloud.now) (asked_of query.now) },
 }
 
-/// Pushes an explanation: the lines of the slots, that of the trees by their counts, what nobody has, and whether a candidate was found.
-#[tactic(auto, using(ac_base::proofs::Leaving::behind))]
-pub fn push_explanation<W: Sink>(
-    out: &mut W,
-    cloud: &Cloud,
-    query: &Query,
-    slots: &[SlotTold],
-    trees: &TreeCounts,
-    found: bool,
-) -> Result<(), WriteFailed>
-    requires { map slot_shown slots.now
-        ≡ map (slot_told (providers_of cloud.now)) (slots_of (asked_of query.now)) }
-    ensures { Pushes W.taken W.failures out.old out.new result
-        (slot_lines (providers_of cloud.now) (asked_of query.now)
-        ++ (trees_line (trees_shown trees.now)
-        ++ (nobody_lines (providers_of cloud.now) (asked_of query.now)
-        ++ candidates_line found))) }
-{
-    push_slots(out, cloud, query, slots)?;
-    push_trees(out, trees)?;
-    push_missing(out, cloud, query)?;
-    push_all(out, candidates_line(found))
+impl<'a> Told<'a> {
+    // Why there is no candidate, where there is none.
+    #[tactic(auto, unfolding(crate::specs::Findings::Explanation::because_line))]
+    fn push_because<W: Sink>(&self, out: &mut W) -> Result<(), WriteFailed>
+        ensures { Pushes W.taken W.failures out.old out.new result
+            (because_line (providers_of self.now.cloud.now) (asked_of self.now.query.now)
+            self.now.found) }
+    {
+        if self.found {
+            return Ok(());
+        }
+        push_because(out, self.cloud, self.query, self.slots, self.trees)
+    }
+
+    /// Pushes what stands behind the counts: whether there is a candidate without one thing, why there is none, and where the service may answer
+    /// otherwise.
+    #[tactic(auto, using(ac_base::proofs::Leaving::behind))]
+    pub fn push_reasons<W: Sink>(
+        &self,
+        out: &mut W,
+        without: &FoundWithout,
+    ) -> Result<(), WriteFailed>
+        requires { length (found_shown without.now).subtrees
+            ≤ length (asked_of self.now.query.now).subtrees }
+        ensures { Pushes W.taken W.failures out.old out.new result
+            (without_lines (asked_of self.now.query.now) (found_shown without.now)
+            ++ (because_line (providers_of self.now.cloud.now) (asked_of self.now.query.now)
+            self.now.found
+            ++ differs_lines (providers_of self.now.cloud.now) (asked_of self.now.query.now))) }
+    {
+        push_without(out, self.query, without)?;
+        self.push_because(out)?;
+        push_differences(out, self.cloud, self.query)
+    }
+
+    /// Pushes the lines of the slots, that of the trees by their counts, what nobody has, and whether a candidate was found.
+    #[tactic(auto, using(ac_base::proofs::Leaving::behind))]
+    pub fn push_counts<W: Sink>(&self, out: &mut W) -> Result<(), WriteFailed>
+        ensures { Pushes W.taken W.failures out.old out.new result
+            (told_text (providers_of self.now.cloud.now) (asked_of self.now.query.now)
+            self.now.found) }
+    {
+        push_slots(out, self.cloud, self.query, self.slots)?;
+        push_trees(out, self.trees)?;
+        push_missing(out, self.cloud, self.query)?;
+        push_all(out, candidates_line(self.found))
+    }
 }
 
 /// Whether there is a candidate. Where the counts say that no root has a provider for each slot and the traits that the group
