@@ -213,8 +213,28 @@ def explanation(found, query, cloud):
     told.append(f'candidates: {"some" if found else "none"}')
     if not found:
         told += [f'without {name}: {"some" if has_candidate(other, cloud) else "none"}' for name, other in without(query)]
+        told.append(f'because {reason(query, cloud, taken, whole, held)}')
     told += [difference_line(words) for words, concerns in zip(headings(), concerned(query, cloud), strict=True) if concerns]
     return ''.join(line + '\n' for line in told)
+
+
+FAILING = 'gives it', 'has its traits', 'is in its aggregates', 'is in its tree', 'has room for it'
+
+
+def reason(query, cloud, taken, whole, held):
+    """Why there is no candidate: the first slot that no provider serves, and by which condition; else which roots are none."""
+    for number, (suffix, needs) in enumerate(query.slots(), 1):
+        before = cloud
+        for left, failing in zip(serving(suffix, needs, query, cloud), FAILING, strict=True):
+            if not left:
+                asked = ','.join(f'{name}:{needs[name]}' for name in sorted(needs))
+                return f'slot {number} "{suffix}"{" " * bool(needs)}{asked}: none of {len(before)} {failing}'
+            before = left
+    if not taken:
+        return 'no root has the traits that are asked of it'
+    if not whole:
+        return 'no root has a provider for each slot'
+    return 'no providers for the slots go together' if held else 'no root has all required traits'
 
 
 def has_candidate(query, cloud):

@@ -49,7 +49,8 @@ static SUMS_AND_NONE: [Case; 5] = [
             trees 1: root traits 1, each slot 1, required traits 0\n\
             nobody has CUSTOM_A\n\
             candidates: none\n\
-            without required: some\n",
+            without required: some\n\
+            because no root has all required traits\n",
         status: 1,
         ..TOKENS
     },
