@@ -614,7 +614,7 @@ QUERIES = [
 
 WORDS_NEEDED = 'error: the following required arguments were not provided:\n'
 WORDS_BESIDE = "error: the argument '--tables <DIR>' cannot be used with:\n"
-WORDS_VERSION = "error: invalid value '1.40' for '--microversion <VERSION>': it is 1.36 or 1.39\n"
+WORDS_VERSION = "error: invalid value '1.40' for '--microversion <VERSION>': it is 1.36 to 1.39\n"
 WORDS_USAGE = '\nUsage: ac_cli tokens [OPTIONS] --tables <DIR> <QUERY>\n       ac_cli tokens [OPTIONS] --providers <FILE> --inventories <FILE> <QUERY>\n'
 
 

@@ -185,7 +185,9 @@ WORDS = [
     refused('--microversion without a value', [*tokens('resources=VCPU:2'), '--microversion']),
     refused('a microversion for check', [*check(), '--microversion', '1.36']),
     refused('help is not asked by a value', [*tokens('resources=VCPU:2'), '--microversion', '--help']),
-    Case('the microversion that is the default', [*tokens('resources=VCPU:12'), '--microversion', '1.36'], ONE_HOST),
+    *(Case(f'a microversion that reads as the default: {version}', [*tokens('resources=VCPU:12'), '--microversion', version], ONE_HOST)
+      for version in ('1.36', '1.37', '1.38')),
+    Case('a list of traits before 1.39', [*tokens('resources=VCPU:12&required=in:A,B'), '--microversion', '1.38'], err='query: pair 2: BadValue\n', status=4),
     Case('the later microversion, before the query', over(['tokens', '--microversion=1.39', 'resources=VCPU:12']), ONE_HOST),
     refused('an option twice', [*tokens('resources=VCPU:2'), '--providers', PROVIDERS], '--providers'),
     refused('a query that looks like an option', tokens('-resources=VCPU:2')),

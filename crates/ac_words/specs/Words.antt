@@ -1,5 +1,5 @@
 -- The command line: what `clap` is told of it, and what it states of the words.
-use Rattle.std.specs.Prelude.{◌≡◌, ◌≢◌, ◌&&◌, ⊤, ℕ, List, [], ◌∷◌, ◌++◌, Bool, Option, Some, None, true, false, not, codes, is_some, option_map, string_bytes, if◌then◌else◌}
+use Rattle.std.specs.Prelude.{◌||◌, ◌≡◌, ◌≢◌, ◌&&◌, ⊤, ℕ, List, [], ◌∷◌, ◌++◌, Bool, Option, Some, None, true, false, not, codes, is_some, option_map, string_bytes, if◌then◌else◌}
 use Rattle.std.specs.declared.alloc.Global.{Global}
 use Rattle.std.specs.declared.string.String.{String}
 use Rattle.std.specs.List.{list_any}
@@ -152,7 +152,8 @@ is_set (Some text) = bytes_eq text (codes "true")
 abbrev pub version_named : Option Text → Option Version
 version_named None = Some V136
 version_named (Some text) =
-    if bytes_eq text (codes "1.36") then Some V136 else if bytes_eq text (codes "1.39") then Some V139 else None
+    if bytes_eq text (codes "1.36") || bytes_eq text (codes "1.37") || bytes_eq text (codes "1.38") then Some V136
+    else if bytes_eq text (codes "1.39") then Some V139 else None
 
 -- the version that reads the query
 abbrev pub version_of : List Row → Option Version

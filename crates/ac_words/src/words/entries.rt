@@ -74,7 +74,7 @@ fn version_named(text: Option<&str>) -> Option<Version>
     ensures { result ≡ version_named (option_map (λ t. t.now) text.entry) }
 {
     match text {
-        None | Some("1.36") => Some(Version::V136),
+        None | Some("1.36" | "1.37" | "1.38") => Some(Version::V136),
         Some("1.39") => Some(Version::V139),
         Some(_) => None,
     }
@@ -105,7 +105,7 @@ fn version(alloc: Global, name: Name, entries: &ArgMatches<'_>) -> Result<Versio
         None => {
             let text = text.unwrap_or("");
             let message = format!(in alloc;
-                "invalid value '{text}' for '--microversion <VERSION>': it is 1.36 or 1.39"
+                "invalid value '{text}' for '--microversion <VERSION>': it is 1.36 to 1.39"
             )?;
             Err(refusal(alloc, name, ErrorKind::InvalidValue, message.as_str())?)
         }

@@ -117,8 +117,8 @@ fn add_options<'a>(alloc: Global, command: Command<'a>) -> Result<Command<'a>, A
         alloc,
         "microversion",
         "VERSION",
-        "Reads the query by 1.36, or by 1.39: `required` may then be a list `in:A,B`, which asks \
-         for one of its traits, and may be repeated [default: 1.36]",
+        "Reads the query by 1.36 (as do 1.37 and 1.38), or by 1.39: `required` may then be a list \
+         `in:A,B`, which asks for one of its traits, and may be repeated [default: 1.36]",
     ))?;
     Ok(command)
 }
