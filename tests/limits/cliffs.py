@@ -174,6 +174,20 @@ IN_AGGREGATES = {
 EVERY_OTHER = ('resources=' + ','.join(f'{name}:1' for name in SIXTY)
                + '&member_of=in:' + ','.join(provider(0xa0000 + place) for place in reversed(range(1, 2000, 2))))
 
+FORBIDDEN = 'resources=' + ','.join(f'{name}:1' for name in SIXTY) + ''.join(f'&member_of=!{provider(0xa0000 + place)}' for place in range(1300))
+
+# 4000 traits that one host of 20000 has.
+ONE_HAS = {**shared(ids(20000), [], 1), 'traits': lambda: traits((provider(12000), f'CUSTOM_N{n}') for n in range(4000))}
+OF_ONE = 'resources=CUSTOM_CPU:1&required=' + ','.join(f'CUSTOM_N{n}' for n in range(4000))
+
+# 1000 hosts of eight NUMA nodes and eight GPUs, of which the last has the trait that is required of both.
+NODES_AND_GPUS = trees(1000, 16)
+LAST_GPU = {
+    'providers': lambda: providers(NODES_AND_GPUS),
+    'inventories': lambda: inventories((id, 'PGPU' if place < 8 else 'VCPU', 8) for tree in NODES_AND_GPUS for place, id in enumerate(tree[1:])),
+    'traits': lambda: traits((tree[8], 'CUSTOM_T') for tree in NODES_AND_GPUS),
+}
+
 # Ten hosts of the most units that there are.
 LARGE = ids(10)
 UNITS = {
@@ -208,6 +222,10 @@ ASKED = [
     ('fives and sixes', filled(TEN, 'VCPU', 10), ['tokens', FIVES_AND_SIXES], lambda: []),
     ('disks that all share', ALL_SHARE, ['hosts', groups(1, 64, 'resources{}=DISK_GB:1') + '&group_policy=none'], 0),
     ('aggregates of a long list', IN_AGGREGATES, ['tokens', EVERY_OTHER], lambda: [','.join([id] * 60) for id in MEMBERS[1::2]]),
+    ('aggregates that are forbidden', IN_AGGREGATES, ['tokens', FORBIDDEN], lambda: [','.join([id] * 60) for id in MEMBERS[1300:]]),
+    ('traits that one host has', ONE_HAS, ['tokens', OF_ONE], lambda: [provider(12000)]),
+    ('a trait of the last GPU', LAST_GPU, ['tokens', 'resources=PGPU:1,VCPU:1&required=CUSTOM_T'],
+     lambda: [f'{tree[8]},{node}' for tree in NODES_AND_GPUS for node in tree[9:]]),
     ('units that are placed one by one', UNITS, ['fill', '--sum', 'resources=CUSTOM_UNIT:5'], lambda: ['at least 4294967290, at most 4294967290']),
     ('eight groups on ten nodes again and again', filled(TEN, 'VCPU', 8),
      ['fill', groups(1, 8, 'resources{}=VCPU:1') + '&group_policy=none'], lambda: [','.join([id] * 8) for id in TEN[0][1:]]),
@@ -221,11 +239,12 @@ ASKED = [
 
 
 def questions(cloud, query):
-    """A line for each kind of question about a query. To fill disks that all share takes too long: a disk that is full is passed over in each group again."""
+    """A line for each kind of question about a query. To fill disks that all share takes too long: a disk that is full is passed over in each group again;
+    and so it takes to explain a thousand forbidden aggregates, which are asked of each class again."""
     few = query if 'limit=' in query else f'{query}&limit=1000'
     fill = [] if cloud is ALL_SHARE else [f'fill {few}']
-    return ''.join(f'{question}\n' for question in (f'tokens {few}', f'candidates {few}', f'list {few}', f'hosts {query}', f'explain {query}',
-                                                    f'why {query} {provider(1)}', *fill))
+    explain = [] if query is FORBIDDEN else [f'explain {query}', f'hosts {query}']
+    return ''.join(f'{question}\n' for question in (f'tokens {few}', f'candidates {few}', f'list {few}', *explain, f'why {query} {provider(1)}', *fill))
 
 
 def cliffs(program):
