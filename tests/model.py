@@ -214,7 +214,7 @@ def explanation(found, query, cloud):
     if not found:
         told += [f'without {name}: {"some" if has_candidate(other, cloud) else "none"}' for name, other in without(query)]
         told.append(f'because {reason(query, cloud, taken, whole, held)}')
-    told += [difference_line(words) for words, concerns in zip(headings(), concerned(query, cloud), strict=True) if concerns]
+    told += [difference_line(words) for words, concerns in zip(headings(), concerned(query, cloud), strict=True) if concerns and (found or words in ADDING)]
     return ''.join(line + '\n' for line in told)
 
 
@@ -285,6 +285,10 @@ def headings():
     with open(DIFFERENCES, encoding='utf-8') as page:
         parts = re.split('^## ', page.read(), flags=re.M)[1:3]
     return [words_of(heading) for part in parts for heading in re.findall('^### (.*)$', part, re.M)]
+
+
+# What adds candidates, or refuses the query; all else takes candidates away, and shows nowhere where there is none.
+ADDING = 'the tree of a group without resources', 'when a policy is needed'
 
 
 def difference_line(words):

@@ -123,7 +123,7 @@ told_text all asked found =
 
 unfoldable pub explanation_text : List Provider → Asked → Bool → List ℕ
 explanation_text all asked found =
-    told_text all asked found ++ (without_lines asked (found_without all asked found) ++ (because_line all asked found ++ differs_lines all asked))
+    told_text all asked found ++ (without_lines asked (found_without all asked found) ++ (because_line all asked found ++ differs_lines all asked found))
 
 abbrev pub explanation_status : Bool → ℕ
 explanation_status true = 0

@@ -297,11 +297,12 @@ impl<'a> Told<'a> {
             (without_lines (asked_of self.now.query.now) (found_shown without.now)
             ++ (because_line (providers_of self.now.cloud.now) (asked_of self.now.query.now)
             self.now.found
-            ++ differs_lines (providers_of self.now.cloud.now) (asked_of self.now.query.now))) }
+            ++ differs_lines (providers_of self.now.cloud.now) (asked_of self.now.query.now)
+            self.now.found)) }
     {
         push_without(out, self.query, without)?;
         self.push_because(out)?;
-        push_differences(out, self.cloud, self.query)
+        push_differences(out, self.cloud, self.query, self.found)
     }
 
     /// Pushes the lines of the slots, that of the trees by their counts, what nobody has, and whether a candidate was found.

@@ -1,5 +1,5 @@
 -- The lines of an explanation that say where the running service may answer otherwise.
-use Rattle.std.specs.Prelude.{ℕ, List, [], ◌∷◌, codes}
+use Rattle.std.specs.Prelude.{ℕ, ◌&&◌, ◌||◌, Bool, true, false, List, [], ◌∷◌, codes}
 use Rattle.std.specs.List.{filter, flat_map}
 use Rattle.ac_query.specs.Asked.{Asked}
 use Rattle.ac_cloud.specs.World.{Provider}
@@ -27,6 +27,26 @@ heading difference.TreeOutsideSummaries = codes "summaries of a tree that gives 
 unfoldable pub differs_line : Difference → List ℕ
 differs_line d = said (codes "differs: " ∷ heading d ∷ codes " (docs/DIFFERENCES.md)\n" ∷ [])
 
--- a line for each difference that may concern the query, in the order of the page
-abbrev pub differs_lines : List Provider → Asked → List ℕ
-differs_lines all asked = flat_map differs_line (filter (applies all asked) all_differences)
+-- It adds candidates, or refuses the query: so it shows where there is no candidate by the rules, too. All others take away.
+abbrev pub adds : Difference → Bool
+adds difference.AmountsOfTwoGroups = false
+adds difference.SharedDiskForOneTree = false
+adds difference.SharingProviderWithParent = false
+adds difference.GroupThatOnlyForbids = false
+adds difference.TreeWithoutResources = true
+adds difference.PolicyNeeded = true
+adds difference.IsolateWithoutResources = false
+adds difference.TwoMemberOf = false
+adds difference.ForbiddenAggregateOfAnotherTree = false
+adds difference.MemberOfBelowRoot = false
+adds difference.InTreeAndSharing = false
+adds difference.FloatingPoint = false
+adds difference.TreeOutsideSummaries = false
+
+-- it may concern the query, by whether this has a candidate
+abbrev pub may_show : List Provider → Asked → Bool → Difference → Bool
+may_show all asked found d = (found || adds d) && applies all asked d
+
+-- a line for each difference that may show, in the order of the page
+abbrev pub differs_lines : List Provider → Asked → Bool → List ℕ
+differs_lines all asked found = flat_map differs_line (filter (may_show all asked found) all_differences)

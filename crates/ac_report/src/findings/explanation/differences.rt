@@ -1,9 +1,8 @@
-//! Where the running service may answer otherwise, told without memory: a line for each difference that may concern a query.
+//! Where the running service may answer otherwise, told without memory: a line for each difference that may show.
 ghost use Rattle.std.specs.Prelude.{◌≡◌, if◌then◌else◌, []};
 ghost use Rattle.ac_cloud.specs.Cloud.CloudWorld.{providers_of};
 ghost use Rattle.ac_query.specs.Shown.Queries.{asked_of};
-ghost use Rattle.ac_differences.specs.Differing.{applies};
-ghost use Rattle.ac_report.specs.Findings.Explanation.Differing.{differs_line, differs_lines, heading};
+ghost use Rattle.ac_report.specs.Findings.Explanation.Differing.{adds, differs_line, differs_lines, heading, may_show};
 ghost use Rattle.ac_base.specs.Writing.{Pushes};
 
 use ac_base::pieces::push_pieces;
@@ -49,34 +48,54 @@ fn push_line<W: Sink>(out: &mut W, difference: Difference) -> Result<(), WriteFa
     )
 }
 
-// The line of a difference, if this may concern a query.
-fn push_if_applies<W: Sink>(
+// Whether a difference adds candidates, or refuses the query. All others take away.
+fn adds(difference: Difference) -> bool
+    ensures { result ≡ adds difference }
+{
+    matches!(
+        difference,
+        Difference::TreeWithoutResources | Difference::PolicyNeeded
+    )
+}
+
+// Whether a difference may show, by whether there is a candidate.
+fn may_show(cloud: &Cloud, query: &Query, found: bool, difference: Difference) -> bool
+    ensures { result
+        ≡ may_show (providers_of cloud.now) (asked_of query.now) found difference }
+{
+    (found || adds(difference)) && applies(cloud, query, difference)
+}
+
+// The line of a difference, if this may show.
+fn push_if_shown<W: Sink>(
     out: &mut W,
     cloud: &Cloud,
     query: &Query,
+    found: bool,
     difference: Difference,
 ) -> Result<(), WriteFailed>
     ensures { Pushes W.taken W.failures out.old out.new result
-        (if applies (providers_of cloud.now) (asked_of query.now) difference
+        (if may_show (providers_of cloud.now) (asked_of query.now) found difference
         then differs_line difference else []) }
 {
-    if applies(cloud, query, difference) {
+    if may_show(cloud, query, found, difference) {
         push_line(out, difference)?;
     }
     Ok(())
 }
 
-/// Pushes a line for each difference that may concern a query over a cloud.
+/// Pushes a line for each difference that may show in what the service answers to a query over a cloud, by whether there is a candidate.
 pub(crate) fn push_differences<W: Sink>(
     out: &mut W,
     cloud: &Cloud,
     query: &Query,
+    found: bool,
 ) -> Result<(), WriteFailed>
     ensures { Pushes W.taken W.failures out.old out.new result
-        (differs_lines (providers_of cloud.now) (asked_of query.now)) }
+        (differs_lines (providers_of cloud.now) (asked_of query.now) found) }
 {
     for difference in all_differences() {
-        push_if_applies(out, cloud, query, *difference)?;
+        push_if_shown(out, cloud, query, found, *difference)?;
     }
     Ok(())
 }
