@@ -208,7 +208,7 @@ ASKED = [
     ('fives and sixes', filled(TEN, 'VCPU', 10), ['tokens', FIVES_AND_SIXES], lambda: []),
     ('disks that all share', ALL_SHARE, ['hosts', groups(1, 64, 'resources{}=DISK_GB:1') + '&group_policy=none'], 0),
     ('aggregates of a long list', IN_AGGREGATES, ['tokens', EVERY_OTHER], lambda: [','.join([id] * 60) for id in MEMBERS[1::2]]),
-    ('units that are placed one by one', UNITS, ['fill', '--sum', 'resources=CUSTOM_UNIT:5'], lambda: ['at least 4294967290, at most 4294967290']),
+    ('units that are placed one by one', UNITS, ['fill', '--sum', 'resources=CUSTOM_UNIT:5'], lambda: ['at least 4294967290, at most 4294967290: short of CUSTOM_UNIT at 10 hosts']),
     ('eight groups on ten nodes again and again', filled(TEN, 'VCPU', 8),
      ['fill', groups(1, 8, 'resources{}=VCPU:1') + '&group_policy=none'], lambda: [','.join([id] * 8) for id in TEN[0][1:]]),
     ('four devices of 300 hosts of 32', filled(DEVICES, 'CUSTOM_PCI', 1),
