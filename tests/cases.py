@@ -90,11 +90,10 @@ def listed(name, cloud, query, rows, *words, **changed):
     return Case(f'list: {name}', ['list', full(query), *map(full, words)], out, tables={**tables(cloud), **changed})
 
 
-def filled(name, cloud, query, *placed, most):
-    """`fill` must write these placements, and how many these are, and how many there can be at most."""
-    status = 0 if placed else 1
+def filled(name, cloud, query, *placed, said, status=0):
+    """`fill` must write these placements, and this in sum. The status is that of the former."""
     yield Case(f'fill: {name}', ['fill', full(query)], lines(*placed), status=status, tables=tables(cloud))
-    yield Case(f'fill, in sum: {name}', ['fill', '--sum', full(query)], f'at least {len(placed)}, at most {most}\n', status=status, tables=tables(cloud))
+    yield Case(f'fill, in sum: {name}', ['fill', '--sum', full(query)], said + '\n', status=0 if placed else 1, tables=tables(cloud))
 
 
 def counted(name, counts, **changed):
@@ -245,17 +244,45 @@ DETAILS = [
 
 # Lists `in:A,B`, of which one trait each must be had, and a repeated `required`: only with 1.39.
 DISKS_TOO = 'resources=DISK_GB:30,VCPU:2'
+ZONES = '''P1 | | VCPU total 8 | COMPUTE_STATUS_DISABLED
+P2 | | VCPU total 8 | COMPUTE_STATUS_DISABLED
+P3 | | VCPU total 8 | CUSTOM_B
+P4 | | VCPU total 4 | CUSTOM_B'''
+ONE_MORE = 'P1 | | VCPU total 8; MEMORY_MB total 1024\nP3 | | VCPU total 8'
+TWO_SHORT = 'P1 | | VCPU total 8; MEMORY_MB total 1024\nP3 | | VCPU total 4; MEMORY_MB total 4096'
+BESIDE_SHARED = '''P1 | | VCPU total 8 | | A1
+P3 | | VCPU total 4; DISK_GB total 1000
+P9 | | DISK_GB total 100 | MISC_SHARES_VIA_AGGREGATE | A1'''
 FILLED = [
-    *filled('one host', ONE, 'resources=VCPU:3', 'P1', 'P1', most=2),
-    *filled('all of it', ONE, 'resources=VCPU:8', 'P1', most=1),
-    *filled('nothing', ONE, 'resources=VCPU:9', most=0),
-    *filled('two hosts', APART, 'resources=VCPU:4', 'P1', 'P1', 'P3', 'P3', most=4),
-    *filled('up to a limit', APART, 'resources=VCPU:4&limit=3', 'P1', 'P1', 'P3', most=4),
-    *filled('two slots on one provider', CHILD, THREE_AND_THREE, 'P1,P1', 'P2,P2', most=4),
-    *filled('two slots that stand apart', CHILD, THREE_AND_THREE.replace('none', 'isolate'), 'P1,P2', 'P1,P2', most=4),
-    *filled('a shared disk that is full first', SHARED, DISKS_TOO, 'P9,P1', 'P9,P1', 'P9,P1', most=3),
-    *filled('in steps', STEPS, 'resources=VCPU:2', 'P1', 'P1', 'P1', 'P1', most=4),
-    *filled('a provider that the slot does not take', SHARED_X, 'resources1=VCPU:4&required1=CUSTOM_X', 'P3', 'P3', most=2),
+    *filled('one host', ONE, 'resources=VCPU:3', 'P1', 'P1', said='at least 2, at most 2: short of VCPU at 1 host'),
+    *filled('all of it', ONE, 'resources=VCPU:8', 'P1', said='at least 1, at most 1: short of VCPU at 1 host'),
+    *filled('nothing', ONE, 'resources=VCPU:9', said='at least 0, at most 0', status=1),
+    *filled('two hosts', APART, 'resources=VCPU:4', 'P1', 'P1', 'P3', 'P3', said='at least 4, at most 4: short of VCPU at 2 hosts'),
+    *filled('up to a limit, which a sum leaves aside', APART, 'resources=VCPU:4&limit=3', 'P1', 'P1', 'P3', said='at least 4, at most 4: short of VCPU at 2 hosts'),
+    *filled('just the limit', APART, 'resources=VCPU:4&limit=4', 'P1', 'P1', 'P3', 'P3', said='at least 4, at most 4: short of VCPU at 2 hosts'),
+    *filled('fewer than the limit', APART, 'resources=VCPU:4&limit=50', 'P1', 'P1', 'P3', 'P3', said='at least 4, at most 4: short of VCPU at 2 hosts', status=1),
+    *filled('nothing up to a limit', ONE, 'resources=VCPU:9&limit=1', said='at least 0, at most 0', status=1),
+    *filled('two slots on one provider', CHILD, THREE_AND_THREE, 'P1,P1', 'P2,P2', said='at least 2, at most 4: short of VCPU at 1 host'),
+    *filled('two slots that stand apart', CHILD, THREE_AND_THREE.replace('none', 'isolate'), 'P1,P2', 'P1,P2', said='at least 2, at most 4: short of VCPU at 1 host'),
+    *filled('a shared disk that is full first', SHARED, DISKS_TOO, 'P9,P1', 'P9,P1', 'P9,P1', said='at least 3, at most 3: short of DISK_GB at 2 hosts'),
+    *filled('in steps', STEPS, 'resources=VCPU:2', 'P1', 'P1', 'P1', 'P1', said='at least 4, at most 4: short of VCPU at 1 host'),
+    *filled('a provider that the slot does not take', SHARED_X, 'resources1=VCPU:4&required1=CUSTOM_X', 'P3', 'P3', said='at least 2, at most 2: short of VCPU at 1 host'),
+    # Roots that don't fit count nothing: neither those of a zone that is disabled, nor one whose room is for another class alone.
+    *filled('a zone that is disabled', ZONES, 'resources=VCPU:4&root_required=!COMPUTE_STATUS_DISABLED', 'P3', 'P3', 'P4', said='at least 3, at most 3: short of VCPU at 2 hosts'),
+    *filled('all zones are disabled', ZONES, 'resources=VCPU:4&root_required=!COMPUTE_STATUS_DISABLED,!CUSTOM_B', said='at least 0, at most 0', status=1),
+    *filled('a host that has one of two classes', ONE_MORE, 'resources=VCPU:2,MEMORY_MB:512', 'P1,P1', 'P1,P1', said='at least 2, at most 2: short of MEMORY_MB at 1 host'),
+    # Two roots that are short of different classes: in the order of the slots, not of the roots.
+    *filled('two classes that are short', TWO_SHORT, 'resources=VCPU:2,MEMORY_MB:512', 'P1,P1', 'P1,P1', 'P3,P3', 'P3,P3',
+            said='at least 4, at most 4: short of MEMORY_MB at 1 host, VCPU at 1'),
+    *filled('two classes that are short, by groups', TWO_SHORT, 'resources_A=VCPU:2&resources_B=MEMORY_MB:512&group_policy=none', 'P1,P1', 'P1,P1', 'P3,P3', 'P3,P3',
+            said='at least 4, at most 4: short of VCPU at 1 host, MEMORY_MB at 1'),
+    *filled('two classes that are short alike: the first', 'P1 | | VCPU total 4; MEMORY_MB total 1024', 'resources=VCPU:2,MEMORY_MB:512', 'P1,P1', 'P1,P1',
+            said='at least 2, at most 2: short of MEMORY_MB at 1 host'),
+    *filled('two slots of one class: the second is short', CHILD, 'resources1=VCPU:2&resources2=VCPU:5&group_policy=isolate', 'P1,P2', 'P2,P1',
+            said='at least 2, at most 2: short of VCPU at 1 host'),
+    *filled('a shared disk is short at one root alone', BESIDE_SHARED, DISKS_TOO, 'P3,P3', 'P3,P3', 'P9,P1', 'P9,P1', 'P9,P1',
+            said='at least 5, at most 5: short of DISK_GB at 1 host, VCPU at 1'),
+    *filled('a shared disk is less than its roots together', SHARED, 'resources=DISK_GB:30,VCPU:3', 'P9,P1', 'P9,P1', 'P9,P3', said='at least 3, at most 3: short of VCPU at 2 hosts'),
 ]
 
 LISTED = 'resources=PGPU:1,VCPU:1&required=in:CUSTOM_A,CUSTOM_X&required=CUSTOM_B'
@@ -650,7 +677,8 @@ WORDS = [
     # Options in front of other words and behind them, with blanks and with equals signs; behind `--` a word like any other.
     *(Case(f'words: {line}', full(line).split(' '), out, err, status, tables=tables(CHILD)) for line, out, err, status in (
         ('tokens --after=P1 resources=VCPU:8', lines('P2'), '', 0), ('tokens --detail --microversion=1.36 resources=VCPU:8 --after P1', lines('P2'), '', 0),
-        ('fill --sum --detail resources=VCPU:8', 'at least 2, at most 2\n', '', 0), ('fill resources=VCPU:8 --microversion 1.39 --sum', 'at least 2, at most 2\n', '', 0),
+        ('fill --sum --detail resources=VCPU:8', 'at least 2, at most 2: short of VCPU at 1 host\n', '', 0),
+        ('fill resources=VCPU:8 --microversion 1.39 --sum', 'at least 2, at most 2: short of VCPU at 1 host\n', '', 0),
         ('verify resources=VCPU:8 --microversion 1.39 P2', 'candidate\n', '', 0), ('verify --detail a?resources=VCPU:9 P2', full(f'no: rule 1 Units: slot 1 on P2, {NOT_WITHIN}\n'), '', 1),
         ('verify a?resources=VCPU:8 b?P2', '', 'token: BadToken\n', 5), ('verify  ', '', 'query: NoResources\n', 4), ('tokens resources=VCPU:8 --after ', '', 'token: BadToken\n', 5))),
     *(Case(f'words: {line}', line.split(' '), '', err, status) for line, err, status in (

@@ -520,11 +520,31 @@ def filled(query, cloud, limit=None):
     return placed
 
 
-def most_placed(query, cloud):
-    """More placements than that there can't be: of no class do the providers that a slot's own rules take have what it asks more often, together."""
-    return min(sum(max(provider.has[kind].capacity() - provider.has[kind].used, 0) // amount
-                   for provider in cloud if not any(broken_by_one(provider, suffix, needs, query, cloud)))
-               for suffix, needs in query.slots() for kind, amount in needs.items())
+def times_found(kind, suffix, needs, some, query, cloud):
+    """How often some providers that a slot's own rules take have together what it asks of a class."""
+    return sum(max(provider.has[kind].capacity() - provider.has[kind].used, 0) // needs[kind]
+               for provider in some if not any(broken_by_one(provider, suffix, needs, query, cloud)))
+
+
+def bound(found, query, cloud):
+    """More placements than that there can't be: neither more than all providers have what is asked, nor more than those of each root at which a candidate
+    stands, added up. And of how many roots which class is the first that is had least often there."""
+    wanted = [(kind, suffix, needs) for suffix, needs in query.slots() for kind in sorted(needs)]
+    by_root, short = 0, dict.fromkeys((kind for kind, _, _ in wanted), 0)
+    for root in cloud:
+        if root.root() is root and takes(root, query) and any(all(available(provider, root, cloud) for provider in assignment) for assignment in found):
+            hosts = [provider for provider in cloud if available(provider, root, cloud)]
+            times = [times_found(*want, hosts, query, cloud) for want in wanted]
+            by_root += min(times)
+            short[wanted[times.index(min(times))][0]] += 1
+    return min(by_root, *(times_found(*want, cloud, query, cloud) for want in wanted)), {kind: count for kind, count in short.items() if count}
+
+
+def sum_text(count, most, short):
+    told = [f'{kind} at {number}' for kind, number in short.items()]
+    if told:
+        told[0] = f': short of {told[0]} host{"s" if [*short.values()][0] > 1 else ""}'
+    return f'at least {count}, at most {most}{", ".join(told)}\n'
 
 
 def longest(query, cloud, known):
@@ -684,12 +704,13 @@ def asked(name, chance, cloud, query, every, judged):
     yield Case(f'{name}: list', ['list', text, *version], full(list_rows(found, query, cloud)), tables=made)
     yield Case(f'{name}: list after a token, without traits', ['list', text + '&limit=2', *after, '--no-traits', *version],
                full(list_rows(later, query, cloud, False)), tables=made)
-    placed, most = filled(query, cloud), most_placed(query, cloud)
+    placed, (most, short) = filled(query, cloud), bound(found, query, cloud)
     if len(every) <= 30 and not len(placed) <= longest(query, cloud, {}) <= most:
         raise ValueError(f'{name}: {len(placed)} placements by first fit, and at most {most}, are no bounds')
     yield Case(f'{name}: fill', ['fill', text, *version], lines(*map(names, placed)), status=0 if placed else 1, tables=made)
-    yield Case(f'{name}: fill up to a limit', ['fill', text + '&limit=2', *version], lines(*map(names, placed[:2])), status=0 if placed else 1, tables=made)
-    yield Case(f'{name}: fill, in sum', ['fill', '--sum', text, *version], f'at least {len(placed)}, at most {most}\n', status=0 if placed else 1, tables=made)
+    yield Case(f'{name}: fill up to a limit', ['fill', text + '&limit=2', *version], lines(*map(names, placed[:2])), status=0 if len(placed) > 1 else 1, tables=made)
+    limit = chance.choice(['', '&limit=1'])
+    yield Case(f'{name}: fill, in sum', ['fill', '--sum', text + limit, *version], sum_text(len(placed), most, short), status=0 if placed else 1, tables=made)
     yield Case(f'{name}: explain', ['explain', text, *version], full(explanation(found, query, cloud)), status=0 if found else 1, tables=made)
     yield Case(f'{name}: hosts', ['hosts', text, *version], full(host_rows(found, query, cloud)), status=0 if found else 1, tables=made)
     yield Case(f'{name}: why', ['why', text, full(host.name), *version], full(why), status=1 if why.endswith('does not fit\n') else 0, tables=made)

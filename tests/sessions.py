@@ -179,6 +179,13 @@ TURNS = [
     ('release resources1=VCPU:4&resources2=VCPU:5&group_policy=none P1,P1', ended('not in use\n', 1)),
     ('release resources1=VCPU:4&resources2=VCPU:4&group_policy=none P1,P1', ended('released\n', 0)),
     ('claim resources=VCPU:8 P1', ended('claimed\n', 0)),
+    # Placements are claimed too where they are fewer than the limit.
+    (f'fill {FIVE}&limit=2', ended('P2\n', 1)),
+    ('tokens resources=VCPU:4', ended('', 0)),
+    (f'release {FIVE} P2', ended('released\n', 0)),
+    (f'fill {FIVE}&limit=1', ended('P2\n', 0)),
+    (f'fill {FIVE}', ended('', 1)),
+    (f'release {FIVE} P2', ended('released\n', 0)),
     # Providers that aren't there, and refusals.
     ('claim resources=VCPU:1 P7', ended('unknown provider\n', 1)),
     ('release resources=VCPU:1 P7', ended('unknown provider\n', 1)),
@@ -338,7 +345,7 @@ def draw_turn(chance, cloud, queries, claimed):
         limit = chance.randint(1, 2)
         placed = place_all(asked[0], cloud, limit)
         claimed.extend((asked, assignment) for assignment in placed)
-        return f'fill {asked[1]}&limit={limit}', ended(lines(*map(names, placed)), 0 if placed else 1)
+        return f'fill {asked[1]}&limit={limit}', ended(lines(*map(names, placed)), 0 if len(placed) == limit else 1)
     if kind == 'release' and claimed and chance.random() < 0.7:
         asked, assignment = claimed.pop(chance.randrange(len(claimed)))
     else:

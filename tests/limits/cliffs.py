@@ -226,7 +226,7 @@ ASKED = [
     ('traits that one host has', ONE_HAS, ['tokens', OF_ONE], lambda: [provider(12000)]),
     ('a trait of the last GPU', LAST_GPU, ['tokens', 'resources=PGPU:1,VCPU:1&required=CUSTOM_T'],
      lambda: [f'{tree[8]},{node}' for tree in NODES_AND_GPUS for node in tree[9:]]),
-    ('units that are placed one by one', UNITS, ['fill', '--sum', 'resources=CUSTOM_UNIT:5'], lambda: ['at least 4294967290, at most 4294967290']),
+    ('units that are placed one by one', UNITS, ['fill', '--sum', 'resources=CUSTOM_UNIT:5'], lambda: ['at least 4294967290, at most 4294967290: short of CUSTOM_UNIT at 10 hosts']),
     ('eight groups on ten nodes again and again', filled(TEN, 'VCPU', 8),
      ['fill', groups(1, 8, 'resources{}=VCPU:1') + '&group_policy=none'], lambda: [','.join([id] * 8) for id in TEN[0][1:]]),
     ('four devices of 300 hosts of 32', filled(DEVICES, 'CUSTOM_PCI', 1),

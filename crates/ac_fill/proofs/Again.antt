@@ -205,13 +205,13 @@ leads_again asked s then n t first count world =
     }
 
 -- where nothing is still to come, all is counted
-pub record IsCounted (all : List Provider) (asked : Asked) (f : Filled) : Type 0 where
-  pub count : f.count ≡ min (length (filled asked.limit all asked)) 4294967295
-  pub world : with_taken f.takings all ≡ after all asked (filled asked.limit all asked)
+pub record IsCounted (wanted : Option ℕ) (all : List Provider) (asked : Asked) (f : Filled) : Type 0 where
+  pub count : f.count ≡ min (length (filled wanted all asked)) 4294967295
+  pub world : with_taken f.takings all ≡ after all asked (filled wanted all asked)
 
-pub is_counted : (all : List Provider) (asked : Asked) (s : Stand) (f : Filled) → LeadsTo asked (start_of all asked) s → placements_at asked s ≡ []
-    → f.count ≡ s.count → s.count ≤ 4294967295 → with_taken f.takings all ≡ s.world → IsCounted all asked f
-is_counted all asked s f leads none count small world =
+pub is_counted : (wanted : Option ℕ) (all : List Provider) (asked : Asked) (s : Stand) (f : Filled) → LeadsTo asked (start_of wanted all) s → placements_at asked s ≡ []
+    → f.count ≡ s.count → s.count ≤ 4294967295 → with_taken f.takings all ≡ s.world → IsCounted wanted all asked f
+is_counted wanted all asked s f leads none count small world =
     let nothing : length (placements_at asked s) ≡ 0 = ap length none in
     record {
       count = let whole = leads.count in omega (arith, nothing, count, small, whole);

@@ -30,7 +30,7 @@ use Rattle.ac_fill.specs.Filled.{after}
 use Rattle.ac_fill.specs.Shown.{asked_in, count_in, taken_in, with_taken, IsSame, IsTakenOf, SumsFit}
 use Rattle.ac_fill.specs.declared.placements.Filled.{Filled}
 use Rattle.ac_fill.specs.declared.takings.Takings.{Takings}
-use Rattle.ac_fill.proofs.Bounded.{among_all}
+use Rattle.ac_fill.proofs.Claimed.{among_all}
 use Rattle.ac_fill.proofs.Taken.{taken_claims}
 
 -- ---- the world beside what is taken

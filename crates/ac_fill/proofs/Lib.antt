@@ -5,5 +5,8 @@ pub mod Ending
 pub mod Ordered
 pub mod Accepted
 pub mod Bounded
+pub mod Claimed
 pub mod Times
 pub mod Again
+pub mod AtRoots
+pub mod Least

@@ -34,7 +34,7 @@ fills_first_fits (Some n) all asked = first_fits n all asked (candidates all ask
 -- ---- the order of tokens
 
 -- what is a candidate after a claim was one before it
-chosen_before : (all : List Provider) (asked : Asked) (xs : List Placed) (u : List ℕ) → IsChosen (claimed all xs) asked u → IsChosen all asked u
+pub chosen_before : (all : List Provider) (asked : Asked) (xs : List Placed) (u : List ℕ) → IsChosen (claimed all xs) asked u → IsChosen all asked u
 chosen_before all asked xs u h = record {
   list = subst (λ (n : ℕ). IsListBelow n (length (slots_of asked)) u) (claims_alone all xs).0.count h.list;
   candidate = claims_narrow all xs asked u h.candidate;

@@ -32,8 +32,8 @@ abbrev pub placements_at : Asked → Stand → List (List ℕ)
 placements_at asked s = filled s.wanted s.world asked
 
 -- where nothing is placed yet
-abbrev pub start_of : List Provider → Asked → Stand
-start_of all asked = record { wanted = asked.limit; world = all; count = 0 }
+abbrev pub start_of : Option ℕ → List Provider → Stand
+start_of wanted all = record { wanted = wanted; world = all; count = 0 }
 
 abbrev pub takings_of : Filling → Takings
 takings_of f = f.filled.takings

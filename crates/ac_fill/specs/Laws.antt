@@ -50,3 +50,7 @@ ArePlaced all asked (t ∷ ts) =
 -- no list of placements is longer than the bound
 abbrev pub NoneIsLonger : Type 0
 NoneIsLonger = (all : List Provider) (asked : Asked) (ts : List (List ℕ)) → asks_units asked ≡ true → ArePlaced all asked ts → length ts ≤ most_placed all asked
+
+-- nor are those by first fit more
+abbrev pub FillsWithin : Type 0
+FillsWithin = (limit : Option ℕ) (all : List Provider) (asked : Asked) → asks_units asked ≡ true → length (filled limit all asked) ≤ most_placed all asked

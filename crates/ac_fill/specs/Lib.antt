@@ -3,3 +3,4 @@ pub mod Bounds
 pub mod Laws
 pub mod Shown
 pub mod Ends
+pub mod Found

@@ -102,26 +102,26 @@ impl<'a> Filling<'a> {
     }
 }
 
-/// Places a query again and again as [`write_filled`](crate::write_filled) does, and writes nothing.
+/// Places a query again and again as [`write_filled`](crate::write_filled) does, as often as is wanted, and writes nothing.
 pub fn count_filled<'a, S: Source>(
     alloc: Global,
     cloud: &Cloud,
     query: &'a Query,
+    wanted: Option<u32>,
     source: &mut S,
 ) -> Result<Filled<'a>, SearchFault>
     requires whole { S.left source.old
         ≡ candidates (providers_of cloud.now) (asked_of query.now) }
     requires asks { asks_units (asked_of query.now) ≡ true }
     ensures count { IfOk result (λ f. f.count ≡ min (length
-        (filled (asked_of query.now).limit (providers_of cloud.now) (asked_of query.now)))
-        4294967295) }
+        (filled wanted (providers_of cloud.now) (asked_of query.now))) 4294967295) }
     ensures world { IfOk result (λ f. with_taken f.takings (providers_of cloud.now)
         ≡ after (providers_of cloud.now) (asked_of query.now)
-        (filled (asked_of query.now).limit (providers_of cloud.now) (asked_of query.now))) }
+        (filled wanted (providers_of cloud.now) (asked_of query.now))) }
     ensures fits { IfOk result (λ f. IsTakenOf (providers_of cloud.now) f.takings) }
     ensures stopped { result ≡ Err fault.TooManyTries → S.may_stop source.old }
 {
-    let mut filling = Filling::begin(alloc, cloud, query)?;
+    let mut filling = Filling::begin(alloc, cloud, query, wanted)?;
     'lists: while !is_over(filling.wanted) {
         match source.next()? {
             None => return Ok(filling.filled),

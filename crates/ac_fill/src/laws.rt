@@ -1,6 +1,6 @@
 //! What holds of placements: each function's contract is a law, and no program calls it.
 
-ghost use Rattle.ac_fill.specs.Laws.{AcceptedAsk, FillsFirstFits, FillsInOrder, FillsUp, NoneIsLonger};
+ghost use Rattle.ac_fill.specs.Laws.{AcceptedAsk, FillsFirstFits, FillsInOrder, FillsUp, FillsWithin, NoneIsLonger};
 
 /// Each placement is the first candidate in the world that the ones before it left.
 #[tactic(auto, using(crate::proofs::Ordered::fills_first_fits))]
@@ -30,4 +30,10 @@ pub fn accepted_ask()
 #[tactic(auto, using(crate::proofs::Bounded::none_is_longer))]
 pub fn none_is_longer()
     ensures { NoneIsLonger }
+{}
+
+/// Placements by first fit are no more than the bound.
+#[tactic(auto, using(crate::proofs::Bounded::fills_within))]
+pub fn fills_within()
+    ensures { FillsWithin }
 {}

@@ -4,13 +4,15 @@
 //! the front of a list has no room any more, the pass goes on behind all lists that begin so.
 #![tactic(auto)]
 
-pub mod bound;
+mod bound;
+mod by_root;
 pub mod count;
+mod found;
 pub mod laws;
 pub mod placements;
 pub mod takings;
 
-pub use bound::most_placed;
+pub use bound::{Bound, Short};
 pub use count::count_filled;
 pub use placements::{Filled, write_filled};
 pub use takings::Takings;

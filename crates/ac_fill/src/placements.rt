@@ -45,21 +45,22 @@ impl<'a> Filling<'a> {
     ghost use Rattle.ac_fill.specs.Ends.{count_at, stand_of, takings_of, world_at, IsFull};
     ghost use Rattle.ac_fill.specs.Shown.{SumsFit};
 
-    /// Where nothing is placed yet, and as many are wanted as the query's limit says.
+    /// Where nothing is placed yet, and so many are wanted.
     pub(crate) fn begin(
         alloc: Global,
         cloud: &Cloud,
         query: &'a Query,
+        wanted: Option<u32>,
     ) -> Result<Filling<'a>, NoMemory>
         ensures query { IfOk result (λ f. asked_in (takings_of f) ≡ asked_of query.now) }
         ensures fits { IfOk result (λ f. IsTakenOf (providers_of cloud.now) (takings_of f)) }
         ensures stand { IfOk result (λ f. stand_of (providers_of cloud.now) f
-            ≡ start_of (providers_of cloud.now) (asked_of query.now)) }
+            ≡ start_of wanted (providers_of cloud.now)) }
     {
         let takings = Takings::new(alloc, cloud, query)?;
         Ok(Filling {
             filled: Filled { count: 0, takings },
-            wanted: query.limit(),
+            wanted,
             full: Vec::new(alloc),
         })
     }
@@ -154,10 +155,10 @@ fn write_placements<'a, S: Source, W: Sink>(
         ≡ candidates (providers_of cloud.now) (asked_of query.now) }
     requires asks { asks_units (asked_of query.now) ≡ true }
     ensures ends { Ends W.taken W.failures (providers_of cloud.now) (asked_of query.now)
-        (start_of (providers_of cloud.now) (asked_of query.now)) out.old out.new result }
+        (start_of (asked_of query.now).limit (providers_of cloud.now)) out.old out.new result }
     ensures stopped { result ≡ Err fault.TooManyTries → S.may_stop source.old }
 {
-    let mut filling = Filling::begin(alloc, cloud, query)?;
+    let mut filling = Filling::begin(alloc, cloud, query, query.limit())?;
     let mut text = Vec::new(alloc);
     'lists: while !is_over(filling.wanted) {
         match source.next()? {

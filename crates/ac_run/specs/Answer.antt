@@ -20,7 +20,7 @@ use Rattle.ac_rules.specs.Pages.{page}
 use Rattle.ac_prune.specs.Fitting.{fits_at, fitting}
 use Rattle.ac_report.specs.ListRows.{list_text}
 use Rattle.ac_report.specs.Texts.{body, lines, shown_providers}
-use Rattle.ac_fill.specs.Bounds.{most_placed}
+use Rattle.ac_fill.specs.Bounds.{most_placed, shorts}
 use Rattle.ac_fill.specs.Filled.{filled}
 use Rattle.ac_run.specs.Outputs.{counted, counts, detailed_text, fill_status, sum_text, verdict_status, verdict_text}
 use Rattle.ac_report.specs.Findings.Explanation.{explanation_status, explanation_text}
@@ -82,13 +82,17 @@ page_lines all asked ids = written (lines all (page all asked ids asked.limit)) 
 abbrev pub page_rows : List Provider → Bool → Says
 page_rows all traits asked ids = written (list_text (shown_providers traits all) asked (page all asked ids asked.limit)) 0
 
--- placements, one after another: their tokens, or how many there are and how many there can be at most
-abbrev pub fill_text : Bool → List Provider → Asked → List (List ℕ) → List ℕ
-fill_text false all asked ts = lines all ts
-fill_text true all asked ts = sum_text (counted ts) (most_placed all asked)
+-- the tokens of placements, one after another, up to the limit
+abbrev pub placement_lines : List Provider → Says
+placement_lines all asked ids = written (lines all (filled asked.limit all asked)) (fill_status asked.limit (filled asked.limit all asked))
+
+-- how many these are without a limit, how many there can be at most, and what roots are short of
+abbrev pub placement_sum : List Provider → Says
+placement_sum all asked ids = written (sum_text (counted (filled None all asked)) (most_placed all asked) (shorts all asked)) (fill_status None (filled None all asked))
 
 abbrev pub fills : List Provider → Bool → Says
-fills all sum asked ids = written (fill_text sum all asked (filled asked.limit all asked)) (fill_status (filled asked.limit all asked))
+fills all false = placement_lines all
+fills all true = placement_sum all
 
 abbrev pub verdict_line : List Provider → Bool → Says
 verdict_line all detail asked ids = verdict_on all detail asked (option_and_then (places_of all) ids)

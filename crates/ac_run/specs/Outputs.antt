@@ -1,5 +1,6 @@
 -- The small outputs: the counts of the tables, the verdict on a list, and how many placements there are.
-use Rattle.std.specs.Prelude.{ℕ, min, List, [], ◌∷◌, codes, length}
+use Rattle.std.specs.Prelude.{ℕ, ◌==◌, min, nat_le, List, [], ◌∷◌, ◌++◌, codes, length, Option, unwrap_or, if◌then◌else◌}
+use Rattle.std.specs.List.{flat_map}
 use Rattle.std.specs.Fmt.{decimal}
 use Rattle.ac_base.specs.Writing.Pieces.{newline, said}
 use Rattle.ac_cloud.specs.World.{Provider, Sizes}
@@ -50,11 +51,22 @@ verdict_status (verdict.Broken r) = 1
 abbrev pub counted : List (List ℕ) → ℕ
 counted ts = min (length ts) 4294967295
 
--- how many placements there are, and how many there can be at most
-unfoldable pub sum_text : ℕ → ℕ → List ℕ
-sum_text least most = said (codes "at least " ∷ decimal least ∷ codes ", at most " ∷ decimal most ∷ newline ∷ [])
+-- the first class that roots are short of, with how many these are, and any later one
+unfoldable pub first_short : List ℕ × ℕ → List ℕ
+first_short short = said (codes ": short of " ∷ short.0 ∷ codes " at " ∷ decimal short.1 ∷ (if short.1 == 1 then codes " host" else codes " hosts") ∷ [])
 
--- something was placed
-abbrev pub fill_status : List (List ℕ) → ℕ
-fill_status [] = 1
-fill_status (t ∷ ts) = 0
+unfoldable pub later_short : List ℕ × ℕ → List ℕ
+later_short short = said (codes ", " ∷ short.0 ∷ codes " at " ∷ decimal short.1 ∷ [])
+
+-- all that roots are short of
+abbrev pub shorts_text : List (List ℕ × ℕ) → List ℕ
+shorts_text [] = []
+shorts_text (first ∷ later) = first_short first ++ flat_map later_short later
+
+-- how many placements there are, how many there can be at most, and what roots are short of
+unfoldable pub sum_text : ℕ → ℕ → List (List ℕ × ℕ) → List ℕ
+sum_text least most shorts = said (codes "at least " ∷ decimal least ∷ codes ", at most " ∷ decimal most ∷ shorts_text shorts ∷ newline ∷ [])
+
+-- 0 where as many are placed as the limit says, or without a limit one or more; else 1
+abbrev pub fill_status : Option ℕ → List (List ℕ) → ℕ
+fill_status limit ts = if nat_le (unwrap_or limit 1) (length ts) then 0 else 1

@@ -1,13 +1,15 @@
-//! Small outputs: the counts of the tables, and the verdict on a list. But for the line with a detail they take no memory.
-ghost use Rattle.std.specs.Prelude.{◌≡◌, ◌≤◌, ◌∷◌, [], IfOk, codes, string_bytes};
+//! Small outputs: the counts of the tables, the verdict on a list, and how many placements there are.
+ghost use Rattle.std.specs.Prelude.{◌≡◌, ◌≤◌, ◌∷◌, [], IfOk, codes, map, string_bytes};
 ghost use Rattle.ac_cloud.specs.Cloud.CloudWorld.{sizes_of};
-ghost use Rattle.ac_run.specs.Outputs.{broken_line, broken_name, counts, verdict_status, verdict_text};
+ghost use Rattle.ac_fill.specs.Found.{short_entry};
+ghost use Rattle.ac_run.specs.Outputs.{broken_line, broken_name, counts, first_short, later_short, shorts_text, sum_text, verdict_status, verdict_text};
 ghost use Rattle.ac_base.specs.Writing.Pieces.{newline, said};
 ghost use Rattle.ac_base.specs.Writing.{Pushes};
 ghost use Rattle.ac_run.specs.Answer.{written};
 ghost use Rattle.ac_run.specs.Run.{Delivers};
 
 use ac_base::{Digits, NoMemory, Sink, WriteFailed, push_all, push_pieces};
+use ac_fill::{Bound, Short};
 use ac_report::PageFault;
 use ac_rules::{Rule, Verdict};
 use ac_tables::Counts;
@@ -91,6 +93,53 @@ pub(crate) fn push_counts<W: Sink>(out: &mut W, counted: &Counts) -> Result<(), 
             b"\n",
         ],
     )
+}
+
+// The first class that roots are short of, with how many these are.
+#[tactic(auto, unfolding(crate::specs::Outputs::first_short))]
+fn first_short(alloc: Global, short: &Short) -> Result<String, NoMemory>
+    ensures { IfOk result (λ text. string_bytes text ≡ first_short (short_entry short.now)) }
+{
+    let class = short.class.text();
+    let roots = short.roots;
+    let hosts = if roots == 1 { "host" } else { "hosts" };
+    Ok(format!(in alloc; ": short of {class} at {roots} {hosts}")?)
+}
+
+// A later one.
+#[tactic(auto, unfolding(crate::specs::Outputs::later_short))]
+fn later_short(alloc: Global, short: &Short) -> Result<String, NoMemory>
+    ensures { IfOk result (λ text. string_bytes text ≡ later_short (short_entry short.now)) }
+{
+    let class = short.class.text();
+    let roots = short.roots;
+    Ok(format!(in alloc; ", {class} at {roots}")?)
+}
+
+// All that roots are short of.
+fn shorts_text(alloc: Global, shorts: &[Short]) -> Result<String, NoMemory>
+    ensures { IfOk result (λ text. string_bytes text
+        ≡ shorts_text (map short_entry shorts.now)) }
+{
+    let Some((first, later)) = shorts.split_first() else {
+        return Ok(String::new(alloc));
+    };
+    let mut text = first_short(alloc, first)?;
+    for short in later {
+        text.push_str(&later_short(alloc, short)?)?;
+    }
+    Ok(text)
+}
+
+/// How many placements there are, how many there can be at most, and what roots are short of.
+#[tactic(auto, unfolding(crate::specs::Outputs::sum_text))]
+pub(crate) fn sum_line(alloc: Global, least: u32, bound: &Bound) -> Result<String, NoMemory>
+    ensures { IfOk result (λ line. string_bytes line
+        ≡ sum_text least bound.now.most (map short_entry bound.now.shorts.items)) }
+{
+    let most = bound.most;
+    let shorts = shorts_text(alloc, &bound.shorts)?;
+    Ok(format!(in alloc; "at least {least}, at most {most}{shorts}\n")?)
 }
 
 /// Pushes a text that is at hand, and gives its status.

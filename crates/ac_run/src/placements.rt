@@ -5,35 +5,27 @@ ghost use Rattle.ac_cloud.specs.Cloud.CloudWorld.{providers_of};
 ghost use Rattle.ac_fill.specs.Filled.{asks_units};
 ghost use Rattle.ac_query.specs.Shown.Queries.{asked_of};
 ghost use Rattle.ac_run.specs.Answer.{fills};
-ghost use Rattle.ac_run.specs.Outputs.{counted, fill_status, sum_text};
+ghost use Rattle.ac_run.specs.Outputs.{counted, fill_status};
 ghost use Rattle.ac_run.specs.Run.{Delivers};
 ghost use Rattle.ac_search.specs.Shown.Walk.{MayStop};
 ghost use Rattle.ac_search.specs.declared.fault.SearchFault.TheVariants as fault;
 
 use crate::answer::walk_after;
-use crate::outputs::push_text;
-use ac_base::{NoMemory, Sink};
-use ac_fill::{count_filled, most_placed, write_filled};
+use crate::outputs::{push_text, sum_line};
+use ac_base::Sink;
+use ac_fill::{Bound, count_filled, write_filled};
 use ac_query::Query;
 use ac_report::PageFault;
-use ac_search::SearchFault;
+use ac_search::{SearchFault, fitting_roots};
 use ac_tables::Cloud;
 use std::alloc::Global;
 
-/// 0 where something was placed, else 1.
-pub fn fill_status(count: u32) -> u8
+/// 0 where as many were placed as a limit says, or without one some; else 1.
+pub fn fill_status(limit: Option<u32>, count: u32) -> u8
     ensures few { result ≤ 1 }
-    ensures said { (ts : List (List ℕ)) → count ≡ counted ts → result ≡ fill_status ts }
+    ensures said { (ts : List (List ℕ)) → count ≡ counted ts → result ≡ fill_status limit ts }
 {
-    if count > 0 { 0 } else { 1 }
-}
-
-// How many placements there are, and how many there can be at most.
-#[tactic(auto, unfolding(crate::specs::Outputs::sum_text))]
-fn sum_line(alloc: Global, least: u32, most: u128) -> Result<String, NoMemory>
-    ensures { IfOk result (λ line. string_bytes line ≡ sum_text least most) }
-{
-    Ok(format!(in alloc; "at least {least}, at most {most}\n")?)
+    if count >= limit.unwrap_or(1) { 0 } else { 1 }
 }
 
 // The tokens of placements.
@@ -52,7 +44,7 @@ fn write_placements<W: Sink>(
 {
     let mut source = walk_after(alloc, cloud, query, &None, tries)?;
     let filled = write_filled(alloc, cloud, query, &mut source, out)?;
-    Ok(fill_status(filled.count))
+    Ok(fill_status(query.limit(), filled.count))
 }
 
 // The line of the sum, with its status.
@@ -73,9 +65,11 @@ fn sum_of(
         → MayStop tries (providers_of cloud.now) (asked_of query.now) None }
 {
     let mut source = walk_after(alloc, cloud, query, &None, tries)?;
-    let filled = count_filled(alloc, cloud, query, &mut source)?;
-    let line = sum_line(alloc, filled.count, most_placed(cloud, query))?;
-    Ok((line, fill_status(filled.count)))
+    let filled = count_filled(alloc, cloud, query, None, &mut source)?;
+    let fits = fitting_roots(alloc, cloud, query, tries)?;
+    let bound = Bound::new(alloc, cloud, query, &fits)?;
+    let line = sum_line(alloc, filled.count, &bound)?;
+    Ok((line, fill_status(None, filled.count)))
 }
 
 // How many placements there are.

@@ -1,8 +1,9 @@
 -- What claims and releases do, by what is said of them.
-use Rattle.std.proofs.Common.{◌≡◌, ◌∙◌, ℕ, ◌<◌, ◌==◌, length, if◌then◌else◌, Bool, true, false, List, [], ◌∷◌, Option, Some, None, refl, sym, ap, ap₂, subst}
+use Rattle.std.proofs.Common.{◌≡◌, ◌∙◌, ℕ, ◌<◌, ◌≤◌, length, arith, inl, inr, nat_le, if◌then◌else◌, Bool, true, false, List, [], ◌∷◌, Option, Some, None, refl, sym, ap, ap₂, subst}
 use Rattle.std.specs.List.{All}
 use Rattle.std.specs.Option.{IfSome, option_map, unwrap_or}
 use Rattle.std.specs.Prelude.{Result, Err}
+use Rattle.std.proofs.lemmas.Bool.{cases_Bool, lt-leb}
 use Rattle.std.proofs.lemmas.List.Elements.{All-from_recursion}
 use Rattle.ac_cloud.specs.World.{Provider, World}
 use Rattle.ac_fill.specs.Filled.{after}
@@ -87,19 +88,19 @@ wanted_refused task world (ask.Token f) h told = asks_query task.command _ task.
 wanted_refused task world (ask.Host f) h told = asks_query task.command _ task.version task.query world h.0 ∙ rw (h.1, h.2.1, h.2.2) refl
 wanted_refused task world ask.NoMemory h told = absurd (told refl)
 
-refused_status : (refusal : AskRefusal) → (status_of_asked refusal == 0) ≡ false
-refused_status (ask.Query f) = refl
-refused_status (ask.Token f) = refl
-refused_status (ask.Host f) = refl
-refused_status ask.NoMemory = refl
+refused_status : (refusal : AskRefusal) (most : ℕ) → most ≤ 1 → nat_le (status_of_asked refusal) most ≡ false
+refused_status (ask.Query f) most h = lt-leb 4 most (omega (arith, h))
+refused_status (ask.Token f) most h = lt-leb 5 most (omega (arith, h))
+refused_status (ask.Host f) most h = lt-leb 5 most (omega (arith, h))
+refused_status ask.NoMemory most h = lt-leb 7 most (omega (arith, h))
 
--- nothing changes where the status isn't 0
-module _ (world : World) (all : List Provider) where
-  unchanged : (status : ℕ) → (status == 0) ≡ false → world_after world status all ≡ world
+-- nothing changes behind a refusal
+module _ (most : ℕ) (small : most ≤ 1) (world : World) (all : List Provider) where
+  unchanged : (status : ℕ) → nat_le status most ≡ false → world_after most world status all ≡ world
   unchanged status e = ap (λ b. if b then record world { providers = all } else world) e
 
-  pub refused_world : (refusal : AskRefusal) (o : Outcome) → o ≡ refused (line_of_asked refusal) (status_of_asked refusal) → world ≡ world_after world o.status all
-  refused_world refusal o is = sym (ap (λ o. world_after world o.status all) is ∙ unchanged (status_of_asked refusal) (refused_status refusal))
+  pub refused_world : (refusal : AskRefusal) (o : Outcome) → o ≡ refused (line_of_asked refusal) (status_of_asked refusal) → world ≡ world_after most world o.status all
+  refused_world refusal o is = sym (ap (λ o. world_after most world o.status all) is ∙ unchanged (status_of_asked refusal) (refused_status refusal most small))
 
 -- two worlds with the same providers and sizes
 same_world : (a b : World) → a.providers ≡ b.providers → a.sizes ≡ b.sizes → a ≡ b
@@ -108,32 +109,34 @@ same_world a b p s = ap₂ (λ providers sizes. record { providers = providers; 
 -- what became of a list that was judged, or given back
 module _ (old new : World) (sizes : new.sizes ≡ old.sizes) (asked : Asked) (list : List ℕ) (r : Result Ending AnswerFault) (a b : Option (List ℕ)) (f g : ℕ) where
   pub claimed_so : (v : Verdict) → v ≡ judge old.providers asked list → Gives ⊥ (Some (claim_said v)) r a b f g → (v ≡ verdict.Candidate → new.providers ≡ claimed old.providers (assigned asked list))
-      → ((v ≡ verdict.Candidate → ⊥) → new ≡ old) → TakesTurn ⊥ old (settles old (claim_of old.providers asked (Some list)) (claimed old.providers (assigned asked list))) r new a b f g
+      → ((v ≡ verdict.Candidate → ⊥) → new ≡ old) → TakesTurn ⊥ old (settles 0 old (claim_of old.providers asked (Some list)) (claimed old.providers (assigned asked list))) r new a b f g
   claimed_so v is answer made otherwise =
-      subst (λ v. TakesTurn ⊥ old (settles old (claim_said v) (claimed old.providers (assigned asked list))) r new a b f g) is
-      (turn_whole old new (settles old (claim_said v) (claimed old.providers (assigned asked list))) r a b f g answer (by v made otherwise))
+      subst (λ v. TakesTurn ⊥ old (settles 0 old (claim_said v) (claimed old.providers (assigned asked list))) r new a b f g) is
+      (turn_whole old new (settles 0 old (claim_said v) (claimed old.providers (assigned asked list))) r a b f g answer (by v made otherwise))
     where
       by : (v : Verdict) → (v ≡ verdict.Candidate → new.providers ≡ claimed old.providers (assigned asked list)) → ((v ≡ verdict.Candidate → ⊥) → new ≡ old)
-          → new ≡ world_after old (claim_said v).status (claimed old.providers (assigned asked list))
+          → new ≡ world_after 0 old (claim_said v).status (claimed old.providers (assigned asked list))
       by verdict.Candidate made otherwise = same_world new (record old { providers = claimed old.providers (assigned asked list) }) (made refl) sizes
       by (verdict.Broken rule) made otherwise = otherwise (λ e. cc)
 
   pub released_so : (used : Bool) → used ≡ is_in_use old.providers (assigned asked list) → Gives ⊥ (Some (release_said used)) r a b f g → (used ≡ true → new.providers ≡ released old.providers (assigned asked list))
-      → (used ≡ false → new ≡ old) → TakesTurn ⊥ old (settles old (release_of old.providers asked (Some list)) (released old.providers (assigned asked list))) r new a b f g
+      → (used ≡ false → new ≡ old) → TakesTurn ⊥ old (settles 0 old (release_of old.providers asked (Some list)) (released old.providers (assigned asked list))) r new a b f g
   released_so used is answer made otherwise =
-      subst (λ used. TakesTurn ⊥ old (settles old (release_said used) (released old.providers (assigned asked list))) r new a b f g) is
-      (turn_whole old new (settles old (release_said used) (released old.providers (assigned asked list))) r a b f g answer (by used made otherwise))
+      subst (λ used. TakesTurn ⊥ old (settles 0 old (release_said used) (released old.providers (assigned asked list))) r new a b f g) is
+      (turn_whole old new (settles 0 old (release_said used) (released old.providers (assigned asked list))) r a b f g answer (by used made otherwise))
     where
       by : (used : Bool) → (used ≡ true → new.providers ≡ released old.providers (assigned asked list)) → (used ≡ false → new ≡ old)
-          → new ≡ world_after old (release_said used).status (released old.providers (assigned asked list))
+          → new ≡ world_after 0 old (release_said used).status (released old.providers (assigned asked list))
       by true made otherwise = same_world new (record old { providers = released old.providers (assigned asked list) }) (made refl) sizes
       by false made otherwise = otherwise refl
 
 -- the world behind placements
-pub filled_world : (old new : World) (asked : Asked) (ts : List (List ℕ)) → new.providers ≡ after old.providers asked ts → new.sizes ≡ old.sizes
-    → new ≡ world_after old (fill_status ts) (after old.providers asked ts)
-filled_world old new asked [] made sizes = same_world new old made sizes
-filled_world old new asked (t ∷ ts) made sizes = same_world new (record old { providers = after old.providers asked (t ∷ ts) }) made sizes
+pub filled_world : (old new : World) (asked : Asked) (limit : Option ℕ) (ts : List (List ℕ)) → new.providers ≡ after old.providers asked ts → new.sizes ≡ old.sizes
+    → new ≡ world_after 1 old (fill_status limit ts) (after old.providers asked ts)
+filled_world old new asked limit ts made sizes = elim (cases_Bool (nat_le (unwrap_or limit 1) (length ts))) [
+  | inl enough ↦ rw enough (same_world new (record old { providers = after old.providers asked ts }) made sizes)
+  | inr few ↦ rw few (same_world new (record old { providers = after old.providers asked ts }) made sizes)
+]
 
 -- ---- the turns of an assignment that was read
 
@@ -143,16 +146,16 @@ module _ (version : Version) (query token : List ℕ) (world : World) (asked : A
   read_so = ap₂ (λ asked found. assigned asked (unwrap_or found [])) is named
 
   pub claim_read : claim_turn version query token world
-      ≡ settles world (claim_of world.providers asked found) (claimed world.providers (assigned asked (unwrap_or found [])))
+      ≡ settles 0 world (claim_of world.providers asked found) (claimed world.providers (assigned asked (unwrap_or found [])))
   unfolding claim_turn
   claim_read =
-      ap₂ (λ o xs. settles world o (claimed world.providers xs)) (said (claim_line world.providers) ∙ ap (claim_of world.providers asked) (sym named)) (sym read_so)
+      ap₂ (λ o xs. settles 0 world o (claimed world.providers xs)) (said (claim_line world.providers) ∙ ap (claim_of world.providers asked) (sym named)) (sym read_so)
 
   pub release_read : release_turn version query token world
-      ≡ settles world (release_of world.providers asked found) (released world.providers (assigned asked (unwrap_or found [])))
+      ≡ settles 0 world (release_of world.providers asked found) (released world.providers (assigned asked (unwrap_or found [])))
   unfolding release_turn
   release_read =
-      ap₂ (λ o xs. settles world o (released world.providers xs)) (said (release_line world.providers) ∙ ap (release_of world.providers asked) (sym named)) (sym read_so)
+      ap₂ (λ o xs. settles 0 world o (released world.providers xs)) (said (release_line world.providers) ∙ ap (release_of world.providers asked) (sym named)) (sym read_so)
 
 -- the places that were found are providers, one for each id
 module _ {V : Type 0} (items : V → List ℕ) (all : List Provider) (ids : List ℕ) where
@@ -177,8 +180,8 @@ asking_leaves_all version world unknown h = refl
 asking_leaves_all version world wrong_number h = refl
 
 narrowed : (world : World) (status : ℕ) (xs : List Placed) (asked : Asked) (list : List ℕ)
-    → is_candidate (world_after world status (claimed world.providers xs)).providers asked list ≡ true → is_candidate world.providers asked list ≡ true
-narrowed world status xs asked list = by (status == 0)
+    → is_candidate (world_after 0 world status (claimed world.providers xs)).providers asked list ≡ true → is_candidate world.providers asked list ≡ true
+narrowed world status xs asked list = by (nat_le status 0)
   where
     by : (b : Bool) → is_candidate (if b then record world { providers = claimed world.providers xs } else world).providers asked list ≡ true → is_candidate world.providers asked list ≡ true
     by true h = claims_narrow world.providers xs asked list h

@@ -1,5 +1,5 @@
 -- Turns of a session: what a question does, and what is written for lines one after another.
-use Rattle.std.specs.Prelude.{ℕ, ◌==◌, Bool, true, false, nat_lt, List, [], ◌∷◌, ◌++◌, map, length, codes, Option, Some, None, if◌then◌else◌}
+use Rattle.std.specs.Prelude.{ℕ, Bool, true, false, nat_le, nat_lt, List, [], ◌∷◌, ◌++◌, map, length, codes, Option, Some, None, if◌then◌else◌}
 use Rattle.std.specs.List.{slice_split}
 use Rattle.std.specs.Option.{option_and_then, unwrap_or}
 use Rattle.ac_cloud.specs.World.{Provider, World}
@@ -64,13 +64,13 @@ faulted f = refused (fault_line f) fault_status
 
 -- ---- claims and releases
 
--- the world with these providers, where the status is 0
-abbrev pub world_after : World → ℕ → List Provider → World
-world_after world status all = if status == 0 then record world { providers = all } else world
+-- the world with these providers, where the status is no more than this one
+abbrev pub world_after : ℕ → World → ℕ → List Provider → World
+world_after most world status all = if nat_le status most then record world { providers = all } else world
 
--- an answer; where its status is 0, the providers are these afterwards
-abbrev pub settles : World → Outcome → List Provider → Turn
-settles world o all = record { answer = Some o; world = world_after world o.status all }
+-- an answer; where its status is no more than this one, the providers are these afterwards
+abbrev pub settles : ℕ → World → Outcome → List Provider → Turn
+settles most world o all = record { answer = Some o; world = world_after most world o.status all }
 
 -- the places of the providers that a token names, where each is there
 abbrev pub places_named : List Provider → List ℕ → Option (List ℕ)
@@ -112,12 +112,12 @@ release_line all asked ids = release_of all asked (option_and_then (places_of al
 -- A candidate is claimed: each of its amounts is used as well afterwards.
 unfoldable pub claim_turn : Version → List ℕ → List ℕ → World → Turn
 claim_turn version query token world =
-    settles world (past_query (claim_line world.providers) (Some token) version query) (claimed world.providers (placed_by version world.providers query token))
+    settles 0 world (past_query (claim_line world.providers) (Some token) version query) (claimed world.providers (placed_by version world.providers query token))
 
 -- What is in use is released: it isn't used afterwards.
 unfoldable pub release_turn : Version → List ℕ → List ℕ → World → Turn
 release_turn version query token world =
-    settles world (past_query (release_line world.providers) (Some token) version query) (released world.providers (placed_by version world.providers query token))
+    settles 0 world (past_query (release_line world.providers) (Some token) version query) (released world.providers (placed_by version world.providers query token))
 
 -- ---- placements
 
@@ -125,10 +125,10 @@ release_turn version query token world =
 abbrev pub after_fill : List Provider → Query → List Provider
 after_fill all asked = after all asked (filled asked.limit all asked)
 
--- A query is placed again and again, and each placement is claimed.
+-- A query is placed again and again, and each placement is claimed, be they fewer than the limit.
 unfoldable pub fill_turn : Version → List ℕ → World → Turn
 fill_turn version query world =
-    settles world (past_query (fills world.providers false) None version query) (after_fill world.providers (asked_by version (pairs_of query)))
+    settles 1 world (past_query (fills world.providers false) None version query) (after_fill world.providers (asked_by version (pairs_of query)))
 
 -- ---- turns
 

@@ -162,9 +162,9 @@ pub(crate) fn given(written: Result<u8, PageFault>) -> Result<Ending, AnswerFaul
 
 /// A refusal in place of an answer; want of memory ends the session instead.
 pub(crate) fn refused(refusal: AskRefusal) -> Result<Ending, AnswerFault>
-    ensures { (o : Outcome) → IsRefusal refusal o → (world : World) (all : List Provider)
-        (old : Option (List ℕ)) (count : ℕ)
-        → TakesTurn ⊥ world (settles world o all) result world old old count count }
+    ensures { (o : Outcome) → IsRefusal refusal o → (most : ℕ) → most ≤ 1
+        → (world : World) (all : List Provider) (old : Option (List ℕ)) (count : ℕ)
+        → TakesTurn ⊥ world (settles most world o all) result world old old count count }
 {
     match refusal {
         AskRefusal::NoMemory => Err(AnswerFault::NoMemory),

@@ -219,7 +219,7 @@ fn place_all<W: Sink>(
 ) -> Result<Ending, AnswerFault>
     requires { asks_units (shown query.now) ≡ true }
     ensures { TakesTurn (MayStop tries (providers_of cloud.old) (shown query.now) None)
-        (world_of cloud.old) (settles (world_of cloud.old)
+        (world_of cloud.old) (settles 1 (world_of cloud.old)
         (fills (providers_of cloud.old) false (shown query.now) None)
         (after_fill (providers_of cloud.old) (shown query.now))) result (world_of cloud.new)
         (W.taken out.old) (W.taken out.new) (W.failures out.old) (W.failures out.new) }
@@ -227,7 +227,7 @@ fn place_all<W: Sink>(
     match write_placements(alloc, cloud, query, tries, out) {
         Ok(mut filled) => {
             filled.takings.settle(cloud);
-            Ok(Ending::Given(fill_status(filled.count)))
+            Ok(Ending::Given(fill_status(query.limit(), filled.count)))
         }
         Err(fault) => broken_off(fault),
     }

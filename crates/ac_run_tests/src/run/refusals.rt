@@ -41,7 +41,7 @@ fn an_answer_of_each_command(rt: HostRuntime) {
     check_all(&rt, &ANSWERS, SOUND);
 }
 
-static SUMS_AND_NONE: [Case; 5] = [
+static SUMS_AND_NONE: [Case; 6] = [
     Case {
         command: Command::Explain,
         query: "resources=VCPU:2&required=CUSTOM_A",
@@ -70,8 +70,15 @@ static SUMS_AND_NONE: [Case; 5] = [
     },
     Case {
         command: Command::Fill { sum: true },
-        query: "resources=VCPU:3",
-        output: "at least 2, at most 2\n",
+        query: "resources=VCPU:3&limit=1",
+        output: "at least 2, at most 2: short of VCPU at 1 host\n",
+        ..TOKENS
+    },
+    Case {
+        command: Command::Fill { sum: false },
+        query: "resources=VCPU:3&limit=50",
+        output: "@1\n@1\n",
+        status: 1,
         ..TOKENS
     },
     Case {

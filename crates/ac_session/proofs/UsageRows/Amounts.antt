@@ -1,7 +1,7 @@
 -- The providers that tables state, with other amounts in use.
 use Rattle.std.proofs.Common.{◌≡◌, ◌∙◌, ℕ, suc, ◌+◌, Bool, true, false, List, [], ◌∷◌, None, map, length, refl, sym, ap, subst, arith}
 use Rattle.std.proofs.lemmas.Simd.{map-map}
-use Rattle.std.specs.Prelude.{⊤, ◌==◌, if◌then◌else◌}
+use Rattle.std.specs.Prelude.{⊤, nat_le, if◌then◌else◌}
 use Rattle.std.specs.List.{range_with_len}
 use Rattle.ac_base.specs.Quantities.{InventoryNumbers}
 use Rattle.ac_cloud.specs.Amounts.{entry_using, provider_using, with_amounts}
@@ -103,8 +103,8 @@ module _ (t : Tables) (ids : List ℕ) where
   unfolding released
   released_stated all xs h = amounts_stated t ids _ all h
 
-  after_stated : (world : World) (status : ℕ) (all : List Provider) → AreStated t ids world.providers → AreStated t ids all → AreStated t ids (world_after world status all).providers
-  after_stated world status all h later = by (status == 0)
+  after_stated : (most : ℕ) (world : World) (status : ℕ) (all : List Provider) → AreStated t ids world.providers → AreStated t ids all → AreStated t ids (world_after most world status all).providers
+  after_stated most world status all h later = by (nat_le status most)
     where
       by : (b : Bool) → AreStated t ids (if b then record world { providers = all } else world).providers
       by true = later
@@ -115,10 +115,10 @@ module _ (t : Tables) (ids : List ℕ) where
   asked_stated version world (job task) h = h
   asked_stated version world (fill query) h =
       let asked = asked_by version (pairs_of query) in
-      after_stated world (past_query (fills world.providers false) None version query).status (after_fill world.providers asked) h
+      after_stated 1 world (past_query (fills world.providers false) None version query).status (after_fill world.providers asked) h
       (placed_stated asked world.providers (filled asked.limit world.providers asked) h)
-  asked_stated version world (claim query token) h = after_stated world _ _ h (claimed_stated world.providers _ h)
-  asked_stated version world (release query token) h = after_stated world _ _ h (released_stated world.providers _ h)
+  asked_stated version world (claim query token) h = after_stated 0 world _ _ h (claimed_stated world.providers _ h)
+  asked_stated version world (release query token) h = after_stated 0 world _ _ h (released_stated world.providers _ h)
   asked_stated version world usages h = h
   asked_stated version world nothing h = h
   asked_stated version world unknown h = h

@@ -275,7 +275,7 @@ fn fill<'a>(alloc: Global) -> Result<Command<'a>, AllocError>
     command.arg(flag(
         alloc,
         "sum",
-        "Writes how many fit by first fit, and how many can at most, in place of where",
+        "Writes how many fit by first fit, how many can at most, and what hosts are short of, in place of where",
     ))
 }
 

@@ -42,7 +42,8 @@ macro_rules! searching {
 }
 
 pub(super) const PROGRAM: &str = below!(
-    "  0  the answer is written\n  1  `verify` says no, or `fill`, `explain`, `hosts` or `why` finds no candidate\n",
+    "  0  the answer is written\n  1  `verify` says no; `fill`, `explain`, `hosts` or `why` finds no \
+     candidate; `fill` places fewer than `limit`\n",
     "  3  a table was refused, or a table or the questions could not be read\n",
     "  4  the query was refused\n  5  the token was refused, or the host names no provider\n",
     "  8  a search made as many tries as it may\n",
@@ -74,7 +75,7 @@ pub(super) const LIST: &str = searching!(
 );
 
 pub(super) const FILL: &str = searching!(
-    "  0  something was placed\n  1  nothing fits\n",
+    "  0  something was placed; with a limit, as many as it says\n  1  nothing fits, or fewer than the limit\n",
     "  4  the query was refused\n",
     "  ac_cli fill 'resources=VCPU:2,DISK_GB:20&limit=50' --tables cloud"
 );

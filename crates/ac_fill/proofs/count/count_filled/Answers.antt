@@ -1,8 +1,7 @@
-use Rattle.std.proofs.Common.{◌≡◌, ◌∙◌, ◌∷◌, ℕ, List, Option, Some, true, false, length, sym, ap, subst, refl, arith}
+use Rattle.std.proofs.Common.{◌≡◌, ◌∙◌, ◌∷◌, Some, true, false, length, sym, ap, subst, refl, arith}
 use Rattle.std.specs.Result.{result_from_control_flow}
 use Rattle.std.proofs.lemmas.Result.{err_from_is_err_and}
 use Rattle.ac_cloud.specs.Cloud.CloudWorld.{providers_of}
-use Rattle.ac_cloud.specs.World.{Provider}
 use Rattle.ac_query.specs.Asked.{Asked, slots_of}
 use Rattle.ac_query.specs.Shown.Queries.{asked_of}
 use Rattle.ac_report.proofs.Pages.Paging.{all_head, all_tail, is_next, tail_given}
@@ -13,7 +12,7 @@ use Rattle.ac_rules.specs.Together.{sums}
 use Rattle.ac_rules.proofs.Lists.RestLemmas.{IsChosen}
 use Rattle.ac_fill.specs.Ends.{AreAhead, LeadsTo, Stand, stand_of, start_of, takings_of, world_at}
 use Rattle.ac_fill.specs.Filled.{asks_units}
-use Rattle.ac_fill.specs.Shown.{asked_in, with_taken}
+use Rattle.ac_fill.specs.Shown.{asked_in}
 use Rattle.ac_fill.proofs.Again.{is_counted, leads_on}
 use Rattle.ac_fill.proofs.Placing.{ahead_front, ahead_none, ahead_whole, chosen_behind, chosen_whole, filled_none, filled_over}
 use Rattle.ac_fill.proofs.count.count_filled.Goals as goal
@@ -31,7 +30,7 @@ lists-init g c =
       ahead = λ _. subst (λ (s : Stand). AreAhead s.world asked left) (sym stand) (ahead_whole all asked left c.requires.whole);
       small = omega (arith, ap (λ (s : Stand). s.count) stand);
       stops = λ may. may;
-      leads = subst (LeadsTo asked (start_of all asked)) (sym stand) (record { count = refl; world = refl });
+      leads = subst (LeadsTo asked (start_of c.args.wanted all)) (sym stand) (record { count = refl; world = refl });
     }
 
 pub returns-in-None : goal.returns-in-None
@@ -40,7 +39,7 @@ returns-in-None g c =
     let asked = asked_of c.args.query.now in
     let s = stand_of all c.lists.filling in
     let none = ahead_none s.world asked (g.S.Source.left c.lists.source) (rw c.in-None.is at c.in_ok-next.ensures.head) (c.lists.invariant.ahead (λ e. let over = c.is_over.ensures.1 e in cc)) in
-    let done = is_counted all asked s c.lists.filling.filled c.lists.invariant.leads (filled_none s.wanted s.world asked none) refl c.lists.invariant.small refl in
+    let done = is_counted c.args.wanted all asked s c.lists.filling.filled c.lists.invariant.leads (filled_none s.wanted s.world asked none) refl c.lists.invariant.small refl in
     record { count = done.count; world = done.world; fits = c.lists.invariant.fits; stopped = λ e. absurd (cc) }
 
 pub invariant_of-assignment : goal.invariant_of-assignment
@@ -86,7 +85,7 @@ lists-preserved g c =
       ahead = λ more. ahead_front (world_at all after) asked _ _ _ (subst (λ (a : Asked). sums (world_at all after) (assigned a after.full.items) ≡ false) query (c.in_ok-count_list-in-Some.ensures.full more)) passes (counts.ahead more);
       small = c.in_ok-count_list-in-Some.ensures.small;
       stops = λ may. c.lists.invariant.stops (c.next.follows.holds-at-none.1 (c.skip.ensures.stops may));
-      leads = leads_on asked (start_of all asked) (stand_of all c.lists.filling) (stand_of all after) c.lists.invariant.leads counts.leads;
+      leads = leads_on asked (start_of c.args.wanted all) (stand_of all c.lists.filling) (stand_of all after) c.lists.invariant.leads counts.leads;
     }
 
 pub returns : goal.returns
@@ -94,7 +93,7 @@ returns g c =
     let all = providers_of c.args.cloud.now in
     let asked = asked_of c.args.query.now in
     let s = stand_of all c.lists.filling in
-    let done = is_counted all asked s c.lists.filling.filled c.lists.invariant.leads (filled_over s.wanted s.world asked (c.is_over.ensures.0 c.lists-test.false)) refl c.lists.invariant.small refl in
+    let done = is_counted c.args.wanted all asked s c.lists.filling.filled c.lists.invariant.leads (filled_over s.wanted s.world asked (c.is_over.ensures.0 c.lists-test.false)) refl c.lists.invariant.small refl in
     record { count = done.count; world = done.world; fits = c.lists.invariant.fits; stopped = λ e. absurd (cc) }
 
 pub returns-in_err-next : goal.returns-in_err-next

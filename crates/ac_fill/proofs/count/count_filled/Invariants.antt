@@ -20,7 +20,7 @@ invariant-lists g l =
       ahead : (l.filling.wanted ≡ Some 0 → ⊥) → AreAhead (world_at all l.filling) asked left;
       small : count_at l.filling ≤ 4294967295;
       stops : g.S.Source.may_stop l.source → g.S.Source.may_stop l.fn.source;
-      leads : LeadsTo asked (start_of all asked) (stand_of all l.filling);
+      leads : LeadsTo asked (start_of l.fn.wanted all) (stand_of all l.filling);
     }
 
 abbrev pub decreases-lists : goal.decreases-lists

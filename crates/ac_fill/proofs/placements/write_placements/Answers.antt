@@ -1,7 +1,6 @@
-use Rattle.std.proofs.Common.{◌≡◌, ◌∙◌, ◌∷◌, ℕ, List, Option, Some, true, false, Err, length, sym, ap, subst, refl, arith}
+use Rattle.std.proofs.Common.{◌≡◌, ◌∙◌, ◌∷◌, ℕ, Option, Some, true, false, Err, length, sym, ap, subst, refl, arith}
 use Rattle.std.specs.Result.{result_from_control_flow}
 use Rattle.ac_cloud.specs.Cloud.CloudWorld.{providers_of}
-use Rattle.ac_cloud.specs.World.{Provider}
 use Rattle.ac_query.specs.Asked.{Asked, slots_of}
 use Rattle.ac_query.specs.Shown.Queries.{asked_of}
 use Rattle.ac_report.proofs.Pages.Paging.{all_head, all_tail, is_next, tail_given}
@@ -10,9 +9,9 @@ use Rattle.ac_rules.specs.Lists.{IsListBelow, tail_of}
 use Rattle.ac_rules.specs.Placed.{assigned}
 use Rattle.ac_rules.specs.Together.{sums}
 use Rattle.ac_rules.proofs.Lists.RestLemmas.{IsChosen}
-use Rattle.ac_fill.specs.Ends.{AreAhead, Ends, Stand, stand_of, takings_of, world_at}
+use Rattle.ac_fill.specs.Ends.{AreAhead, Ends, Stand, stand_of, start_of, takings_of, world_at}
 use Rattle.ac_fill.specs.Filled.{asks_units}
-use Rattle.ac_fill.specs.Shown.{asked_in, with_taken}
+use Rattle.ac_fill.specs.Shown.{asked_in}
 use Rattle.ac_report.proofs.Pages.Writing.{same_fault}
 use Rattle.ac_fill.proofs.Ending.{ends_err, ends_halted, ends_none}
 use Rattle.ac_fill.proofs.Placing.{ahead_front, ahead_none, ahead_whole, chosen_behind, chosen_whole, filled_none, filled_over}
@@ -23,7 +22,7 @@ lists-init g c =
     let all = providers_of c.args.cloud.now in
     let asked = asked_of c.args.query.now in
     let left = g.S.Source.left c.args.source.now in
-    let stand = c.in_ok-filling.ensures.stand in
+    let stand = c.in_ok-filling.ensures.stand ∙ ap (λ (wanted : Option ℕ). start_of wanted all) c.limit.ensures in
     record {
       query = c.in_ok-filling.ensures.query;
       fits = c.in_ok-filling.ensures.fits;

@@ -23,7 +23,7 @@ invariant-lists g l =
       small : count_at l.filling ≤ 4294967295;
       stops : g.S.Source.may_stop l.source → g.S.Source.may_stop l.fn.source;
       goes : (r : Result Filled PageFault) (end : g.row.W.Denot) → Ends g.W.Sink.taken g.W.Sink.failures all asked (stand_of all l.filling) l.out end r
-          → Ends g.W.Sink.taken g.W.Sink.failures all asked (start_of all asked) l.fn.out end r;
+          → Ends g.W.Sink.taken g.W.Sink.failures all asked (start_of asked.limit all) l.fn.out end r;
     }
 
 abbrev pub decreases-lists : goal.decreases-lists

@@ -109,12 +109,12 @@ module _ (version : Version) (query token : List ℕ) (world : World) (made : pa
 
   is_between : (claim_turn version query token world).world ≡ between
   unfolding claim_turn
-  is_between = ap (λ o. world_after world o.status new) made
+  is_between = ap (λ o. world_after 0 world o.status new) made
 
   undone : release_turn version query token between ≡ record { answer = Some (written (codes "released\n") 0); world = world }
   unfolding release_turn
   undone =
-      ap (λ o. settles between o (released new (placed_by version new query token))) released_said
+      ap (λ o. settles 0 between o (released new (placed_by version new query token))) released_said
       ∙ ap (λ ps. record { answer = Some (written (codes "released\n") 0); world = record between { providers = ps } }) given_back
 
 release_turn_undoes : ReleaseTurnUndoes

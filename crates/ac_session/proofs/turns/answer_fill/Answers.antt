@@ -1,4 +1,4 @@
-use Rattle.std.proofs.Common.{None, false, refl}
+use Rattle.std.proofs.Common.{arith, None, false, refl}
 use Rattle.ac_cloud.specs.Cloud.CloudWorld.{providers_of}
 use Rattle.ac_run.specs.Answer.{fills}
 use Rattle.ac_session.proofs.Turned.{query_refused}
@@ -10,7 +10,7 @@ pub returns-in-Err : goal.returns-in-Err
 unfolding fill_turn
 returns-in-Err g c =
     turn_weaker (λ no. absurd no) _ _ _ _ _ _ _ _
-    (c.refused.ensures _ (query_refused c.args.version c.args.query.now c.in-Err.refusal c.in-Err.ensures.fault (fills (providers_of c.args.cloud.now) false) None) _ _ _ _)
+    (c.refused.ensures _ (query_refused c.args.version c.args.query.now c.in-Err.refusal c.in-Err.ensures.fault (fills (providers_of c.args.cloud.now) false) None) 1 (omega arith) _ _ _ _)
 
 pub returns-in-Ok : goal.returns-in-Ok
 unfolding fill_turn

@@ -1,4 +1,4 @@
-use Rattle.std.proofs.Common.{[], Some}
+use Rattle.std.proofs.Common.{arith, [], Some}
 use Rattle.ac_cloud.specs.Cloud.CloudWorld.{world_of}
 use Rattle.ac_run.specs.Tasks.{task_of}
 use Rattle.ac_run.specs.Wanted.{answer_to}
@@ -17,4 +17,4 @@ returns-in-Ok g c =
 pub returns-in-Err : goal.returns-in-Err
 returns-in-Err g c =
     gives_weaker (λ no. absurd no) _ _ _ _ _ _
-    (c.refused.ensures _ (wanted_refused (task_of c.args.job) (world_of c.args.cloud.now) c.in-Err.refusal c.in-Err.ensures.fault) (world_of c.args.cloud.now) [] _ _).answer
+    (c.refused.ensures _ (wanted_refused (task_of c.args.job) (world_of c.args.cloud.now) c.in-Err.refusal c.in-Err.ensures.fault) 0 (omega arith) (world_of c.args.cloud.now) [] _ _).answer

@@ -1,10 +1,11 @@
-use Rattle.std.proofs.Common.{◌∙◌, Err, None, Some, [], ap, false}
+use Rattle.std.proofs.Common.{◌∙◌, ℕ, Err, None, Option, Some, [], ap, false}
 use Rattle.ac_cloud.specs.Cloud.CloudWorld.{world_of}
 use Rattle.ac_fill.specs.Filled.{filled}
 use Rattle.ac_query.specs.Shown.Queries.{asked_of}
 use Rattle.ac_session.proofs.Turned.{filled_world}
 use Rattle.ac_session.proofs.Written.{gives_weaker, stopped_behind}
 use Rattle.ac_run.specs.Answer.{fills}
+use Rattle.ac_run.specs.Outputs.{fill_status}
 use Rattle.ac_session.specs.Frames.{end_line}
 use Rattle.ac_session.specs.Turns.{after_fill, settles}
 use Rattle.ac_session.proofs.turns.place_all.Goals as goal
@@ -16,12 +17,12 @@ returns-in-Ok g c =
     let ts = filled asked.limit old.providers asked in
     record {
       answer = record {
-        ok = record { output = c.in-Ok.ensures.text; ends = ap (λ n. end_line n []) (c.fill_status.ensures.said ts c.in-Ok.ensures.count) };
+        ok = record { output = c.in-Ok.ensures.text; ends = ap (λ n. end_line n []) (c.fill_status.ensures.said ts c.in-Ok.ensures.count ∙ ap (λ (limit : Option ℕ). fill_status limit ts) c.limit.ensures) };
         part = tt;
         failed = λ e. absurd cc;
         failures = c.write_placements.ensures.failures;
       };
-      world = filled_world old (world_of c.settle.new.cloud) asked ts (c.settle.ensures.providers ∙ c.in-Ok.ensures.world) c.settle.ensures.sizes;
+      world = filled_world old (world_of c.settle.new.cloud) asked asked.limit ts (c.settle.ensures.providers ∙ c.in-Ok.ensures.world) c.settle.ensures.sizes;
     }
 
 -- nothing is settled
@@ -35,5 +36,5 @@ returns-in-Err g c =
           gives_weaker (λ is. c.write_placements.ensures.stopped (c.in-Err.is ∙ ap Err is)) _ _ _ _ _ (Some placed)
           (c.broken_off.ensures.gives (Some placed) _ _ _ _ c.in-Err.ensures.part (λ is. c.write_placements.ensures.failed (c.in-Err.is ∙ ap Err is))
           c.write_placements.ensures.failures);
-      world = stopped_behind old (settles old placed (after_fill old.providers asked)) c.broken_off.result c.broken_off.ensures.stopped;
+      world = stopped_behind old (settles 1 old placed (after_fill old.providers asked)) c.broken_off.result c.broken_off.ensures.stopped;
     }
