@@ -400,7 +400,7 @@ KNOWN = Case('a fault is told though a growth behind it is refused', ['sh', '-c'
 
 def status_of(text):
     """The status that goes with an answer or a fault line."""
-    if re.search('^candidates: none$|,does not fit$', text, re.M):
+    if re.search('^candidates: none$|^verdict,(?!.*,fits$)', text, re.M):
         return 1
     return next((status for start, status in STATUSES.items() if text.startswith(start)), 0)
 

@@ -1,4 +1,5 @@
 -- The texts of what is found.
+pub mod Asks
 pub mod Explanation
 pub mod HostRows
 pub mod WhyRows

@@ -1,5 +1,6 @@
 //! The texts of what is found of a cloud and a query: explanations, and rows of hosts.
 
+mod asks;
 mod explanation;
 mod host_rows;
 mod lacks;
