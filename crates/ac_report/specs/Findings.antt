@@ -2,4 +2,5 @@
 pub mod Asks
 pub mod Explanation
 pub mod HostRows
+pub mod HostSums
 pub mod WhyRows

@@ -3,6 +3,7 @@
 mod asks;
 mod explanation;
 mod host_rows;
+mod host_sums;
 mod lacks;
 mod question;
 mod why_rows;
@@ -11,5 +12,6 @@ pub use explanation::{
     FoundWithout, explanation_status, find_without, has_candidate, push_explanation, push_reasons,
 };
 pub use host_rows::{hosts_status, hosts_text};
+pub use host_sums::sums_text;
 pub use question::Question;
 pub use why_rows::{root_place, why_at};

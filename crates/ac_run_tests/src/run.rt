@@ -215,7 +215,10 @@ static ANSWERS: [Case; 9] = [
     },
     Case {
         command: Command::Why { host: "@1" },
-        output: "slot,suffix,provider,name,lacks,detail\n1,,@1,,,\n,,@1,,,\n,,@1,,,fits\n",
+        output: "slot,suffix,asks,provider,name,lacks,detail\n\
+            1,,VCPU:2,@1,,,\n\
+            root,,,@1,,,\n\
+            verdict,,,@1,,,fits\n",
         ..TOKENS
     },
     Case {

@@ -31,9 +31,9 @@ pub behind : {X : Type 0} (before rows : List X) (row : X) (more : List X) → m
 behind before rows row more is = append_assoc before rows (row ∷ []) ∙ ap (λ l. before ++ l) (sym is)
 
 -- one more item of a list: its row is the last, or it has none
-module _ {X Y : Type 0} (row : X → Y) (test : X → Bool) (xs : List X) (i : ℕ) (x : X) (low : i < length xs) (is : get_or xs i x ≡ x) where
+module _ {X Y : Type 0} (row : X → Y) (test : X → Bool) (xs : List X) (i : ℕ) (d x : X) (low : i < length xs) (is : get_or xs i d ≡ x) where
   more_tested : filter test (take (i + 1) xs) ≡ filter test (take i xs) ++ cond (test x) (x ∷ []) []
-  more_tested = filter_more test xs i x low ∙ ap (λ (y : X). filter test (take i xs) ++ cond (test y) (y ∷ []) []) is
+  more_tested = filter_more test xs i d low ∙ ap (λ (y : X). filter test (take i xs) ++ cond (test y) (y ∷ []) []) is
 
   pub item_row : test x ≡ true → map row (filter test (take (i + 1) xs)) ≡ map row (filter test (take i xs)) ++ row x ∷ []
   item_row here = rw (more_tested, here) (map-append row (filter test (take i xs)) (x ∷ []))

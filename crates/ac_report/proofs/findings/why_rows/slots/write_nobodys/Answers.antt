@@ -26,11 +26,11 @@ loop-need-preserved c =
     elim c.if-not-somebody_there_has_class.branch [
       | then-not-somebody_there_has_class+in_ok-write_nobody w ↦ λ before h.
           let here : test need ≡ true = ap not (sym c.somebody_there_has_class.ensures ∙ w.if-not-somebody_there_has_class.true) in
-          rw (w.rows-is, sym (behind before (nobody_rows all c.args.root (front_shown c.args.front) (take i needs)) (row need) _ (item_row row test needs i need low is here)))
+          rw (w.rows-is, sym (behind before (nobody_rows all c.args.root (front_shown c.args.front) (take i needs)) (row need) _ (item_row row test needs i need need low is here)))
           (w.in_ok-write_nobody.ensures _ (c.loop-need.invariant before h))
       | else-not-somebody_there_has_class w ↦ λ before h.
           let away : test need ≡ false = ap not (sym c.somebody_there_has_class.ensures ∙ w.if-not-somebody_there_has_class.false) in
-          rw (w.rows-is, item_without row test needs i need low is away) (c.loop-need.invariant before h)
+          rw (w.rows-is, item_without row test needs i need need low is away) (c.loop-need.invariant before h)
     ]
 
 pub returns : goal.returns
