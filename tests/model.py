@@ -2,6 +2,7 @@
 from the program. Ratios are in millionths."""
 from __future__ import annotations
 
+import collections
 import csv
 import io
 import itertools
@@ -360,6 +361,15 @@ def host_rows(found, query, cloud):
     return ''.join(row + '\n' for row in rows)
 
 
+def host_sums(found, query, cloud):
+    """How many roots lack what: those that fit, then the others by falling number, without a slot first, then slot by slot and test by test."""
+    counts = collections.Counter(lacks(root, found, query, cloud) for root in cloud if root.root() is root)
+    fit = counts.pop(('', ''), 0)
+    order = 'root traits', 'required traits', 'together', *STAGES
+    rows = sorted(counts.items(), key=lambda one: (-one[1], one[0][0] or 0, order.index(one[0][1])))
+    return ''.join(row + '\n' for row in ('hosts,slot,lacks', f'{fit},,fits', *(f'{count},{slot},{lack}' for (slot, lack), count in rows)))
+
+
 def asks(needs):
     return ','.join(f'{name}:{needs[name]}' for name in sorted(needs))
 
@@ -685,6 +695,7 @@ def asked(name, chance, cloud, query, every, judged):
     yield Case(f'{name}: fill, in sum', ['fill', '--sum', text, *version], f'at least {len(placed)}, at most {most}\n', status=0 if placed else 1, tables=made)
     yield Case(f'{name}: explain', ['explain', text, *version], full(explanation(found, query, cloud)), status=0 if found else 1, tables=made)
     yield Case(f'{name}: hosts', ['hosts', text, *version], full(host_rows(found, query, cloud)), status=0 if found else 1, tables=made)
+    yield Case(f'{name}: hosts, in sum', ['hosts', '--sum', text, *version], host_sums(found, query, cloud), status=0 if found else 1, tables=made)
     yield Case(f'{name}: why', ['why', text, full(host.name), *version], full(why), status=0 if why.endswith(',fits\n') else 1, tables=made)
     yield Case(f'{name}: verify', ['verify', text, full(names(every[one])), *version], line, status=1 if rule else 0, tables=made)
     told = f'{line[:-1]}: {broken_detail(every[one], RULES[rule - 1], drawn_text, query, cloud)}\n' if rule else line

@@ -68,6 +68,7 @@ FAULTS = [
     (f'verify --detail {TWO} P1', ended('', 2, NUMBER)),
     (f'list --no-traits {TWO} P1', ended('', 2, NUMBER)),
     (f'fill --sum {TWO}', ended('', 2, NUMBER)),
+    (f'hosts --sum {TWO}', ended('', 2, NUMBER)),
     (f'tokens {TWO} ', ended('', 5, 'token: BadToken')),
     (f'tokens  {TWO}', ended('', 4, 'query: NoResources')),
     ('tokens ', ended('', 4, 'query: NoResources')),
