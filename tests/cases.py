@@ -339,7 +339,8 @@ NAMES = [(b'', ''), (b'cmp-az1-050', 'cmp-az1-050'), (b'rack 1, "top"', '"rack 1
          (b'\xc3\xa9\xff\xc3\xa9\n\xfe\xfe', '\u00e9?\u00e9???')]
 SHOWN = b'uuid,root_provider_uuid,parent_provider_uuid,name\n' + b''.join(
     full(f'P{place},P{place},,').encode() + b'"' + name.replace(b'"', b'""') + b'"\n' for place, (name, _) in enumerate(NAMES, 1))
-SHOWN_ROWS = 'root,name,fits,slot,lacks\n' + ''.join(full(f'P{place},{shown},no,1,units\n') for place, (_, shown) in enumerate(NAMES, 1))
+SHOWN_ROWS = 'root,name,fits,slot,lacks\n' + ''.join(
+    full(f'P{place},{shown},no,1,{"units" if place == 1 else "no inventory"}\n') for place, (_, shown) in enumerate(NAMES, 1))
 
 PAGES = [
     page('one host', ONE, 'resources=VCPU:2', ONE_BODY),
@@ -570,7 +571,8 @@ TABLES += [
 
 def named_host(name, host, shown, found, *records, header=NAMED):
     """`why` must find this provider by a text, in a table of providers with names; one class of it has room. Its name is shown in this way."""
-    out = 'slot,suffix,provider,name,lacks,detail\n' + ''.join(full(f'{slot},,{found},{shown},,{end}\n') for slot, end in (('1', ''), ('', ''), ('', 'fits')))
+    out = 'slot,suffix,asks,provider,name,lacks,detail\n' + ''.join(
+        full(f'{slot},,{asks},{found},{shown},,{end}\n') for slot, asks, end in (('1', 'VCPU:2', ''), ('root', '', ''), ('verdict', '', 'fits')))
     return Case(f'why: {name}', ['why', 'resources=VCPU:2', host], out, tables={**tables(ONE), 'providers': rows('providers', *records, header=header)})
 
 

@@ -2,6 +2,7 @@
 from the program. Ratios are in millionths."""
 from __future__ import annotations
 
+import collections
 import csv
 import io
 import itertools
@@ -198,10 +199,9 @@ def explanation(found, query, cloud):
         *_, last = left = list(serving(suffix, needs, query, cloud))
         served.append((suffix, last))
         units, traits, aggregates, tree, room = map(len, left)
-        classes = ','.join(f'{name}:{needs[name]}' for name in sorted(needs))
         fitting = left[3]
         each = ', '.join(f'{name} {sum(has_room(provider, {name: needs[name]}) for provider in fitting)}' for name in sorted(needs))
-        told.append(f'slot {number} "{suffix}"{" " * bool(needs)}{classes}: units {units} of {len(cloud)}, traits {traits}, aggregates {aggregates}, '
+        told.append(f'slot {number} "{suffix}"{" " * bool(needs)}{asks(needs)}: units {units} of {len(cloud)}, traits {traits}, aggregates {aggregates}, '
                     f'tree {tree}, room {room}' + (f' ({each})' if len(needs) > 1 and room < tree else ''))
     roots = [root for root in cloud if root.root() is root]
     taken = [root for root in roots if takes(root, query)]
@@ -349,7 +349,12 @@ def concerned(query, cloud):
     yield bool(bare) and (any(lent(some) for _, needs, _, some in fitting if not needs) or all(lent(some) for _, needs, _, some in fitting if needs))
 
 
-STAGES = 'units', 'traits', 'aggregates', 'tree', 'room'
+STAGES = 'no inventory', 'units', 'traits', 'aggregates', 'tree', 'room'
+
+
+def passing(suffix, needs, query, cloud):
+    """Which providers are left for a slot after each test of `lacks`: those with an inventory of each class, and then as `serving` has them."""
+    return [[provider for provider in cloud if set(needs) <= set(provider.has)], *serving(suffix, needs, query, cloud)]
 
 
 def lacks(root, found, query, cloud):
@@ -359,7 +364,7 @@ def lacks(root, found, query, cloud):
     hosts = [provider for provider in cloud if available(provider, root, cloud)]
     together = set()
     for number, (suffix, needs) in enumerate(query.slots(), 1):
-        left = [[provider for provider in some if provider in hosts] for some in serving(suffix, needs, query, cloud)]
+        left = [[provider for provider in some if provider in hosts] for some in passing(suffix, needs, query, cloud)]
         for stage, some in zip(STAGES, left):
             if not some:
                 return number, stage
@@ -380,6 +385,19 @@ def host_rows(found, query, cloud):
     return ''.join(row + '\n' for row in rows)
 
 
+def host_sums(found, query, cloud):
+    """How many roots lack what: those that fit, then the others by falling number, without a slot first, then slot by slot and test by test."""
+    counts = collections.Counter(lacks(root, found, query, cloud) for root in cloud if root.root() is root)
+    fit = counts.pop(('', ''), 0)
+    order = 'root traits', 'required traits', 'together', *STAGES
+    rows = sorted(counts.items(), key=lambda one: (-one[1], one[0][0] or 0, order.index(one[0][1])))
+    return ''.join(row + '\n' for row in ('hosts,slot,lacks', f'{fit},,fits', *(f'{count},{slot},{lack}' for (slot, lack), count in rows)))
+
+
+def asks(needs):
+    return ','.join(f'{name}:{needs[name]}' for name in sorted(needs))
+
+
 def unmet(traits, suffix, text, query):
     """What a group requires and isn't among these traits; lists of traits are in the order of the query's text."""
     front = f'required{suffix}=in:'
@@ -396,6 +414,8 @@ def unmet_by_root(root, query):
 def detail(provider, suffix, needs, stage, text, query):
     """Of what a provider fails this test of a slot."""
     group = query.groups[suffix]
+    if stage == 'no inventory':
+        return f'{min(set(needs) - set(provider.has))}: no inventory'
     if stage == 'units':
         for name in sorted(needs):
             has = provider.has.get(name)
@@ -420,16 +440,23 @@ def detail(provider, suffix, needs, stage, text, query):
 
 def why_rows(root, found, text, query, cloud):
     """How far the query of this text comes in the tree of a root."""
-    rows = [['slot', 'suffix', 'provider', 'name', 'lacks', 'detail']]
+    rows = [['slot', 'suffix', 'asks', 'provider', 'name', 'lacks', 'detail']]
+    hosts = [provider for provider in cloud if available(provider, root, cloud)]
+    held = set()
     for number, (suffix, needs) in enumerate(query.slots(), 1):
-        left = list(serving(suffix, needs, query, cloud))
-        for provider in cloud:
-            if available(provider, root, cloud) and (not needs or set(needs) & set(provider.has)):
+        front = [number, suffix, asks(needs)]
+        rows += [[*front, '', '', 'no inventory', f'{name}: nobody here'] for name in sorted(needs) if not any(name in provider.has for provider in hosts)]
+        left = passing(suffix, needs, query, cloud)
+        for provider in hosts:
+            if not needs or set(needs) & set(provider.has):
                 stage = next((stage for stage, some in zip(STAGES, left) if provider not in some), '')
-                rows.append([number, suffix, provider.name, '', stage, detail(provider, suffix, needs, stage, text, query)])
-    rows.append(['', '', root.name, '', '' if takes(root, query) else 'root traits', [*unmet_by_root(root, query), ''][0]])
+                rows.append([*front, provider.name, '', stage, detail(provider, suffix, needs, stage, text, query)])
+        if not suffix:
+            held |= {name for provider in hosts if provider in left[-1] for name in provider.traits}
+    rows.append(['root', '', '', root.name, '', '' if takes(root, query) else 'root traits', [*unmet_by_root(root, query), ''][0]])
     slot, lack = lacks(root, found, query, cloud)
-    rows.append([slot, '', root.name, '', lack, 'does not fit' if lack else 'fits'])
+    verdict = unmet(held, '', text, query)[0] if lack == 'required traits' else 'does not fit' if lack else 'fits'
+    rows.append(['verdict', '', '', root.name, '', lack, f'slot {slot}: {verdict}' if slot else verdict])
     written = io.StringIO()
     csv.writer(written, lineterminator='\n').writerows(rows)
     return written.getvalue()
@@ -440,7 +467,7 @@ def broken_detail(assignment, rule, text, query, cloud):
     placed = [(number, provider, suffix, needs) for number, (provider, (suffix, needs)) in enumerate(zip(assignment, query.slots()), 1)]
     if rule in RULES[:4]:
         number, *one = next(one for one in placed if rule in broken_by_one(*one[1:], query, cloud))
-        return f'slot {number} on {one[0].name}, {detail(*one, STAGES[RULES.index(rule)], text, query)}'
+        return f'slot {number} on {one[0].name}, {detail(*one, STAGES[1 + RULES.index(rule)], text, query)}'
     if rule == 'Collective':
         return unmet(set().union(*(provider.traits for _, provider, suffix, _ in placed if not suffix)), '', text, query)[0]
     if rule == 'Sums':
@@ -713,7 +740,8 @@ def asked(name, chance, cloud, query, every, judged):
     yield Case(f'{name}: fill, in sum', ['fill', '--sum', text + limit, *version], sum_text(len(placed), most, short), status=0 if placed else 1, tables=made)
     yield Case(f'{name}: explain', ['explain', text, *version], full(explanation(found, query, cloud)), status=0 if found else 1, tables=made)
     yield Case(f'{name}: hosts', ['hosts', text, *version], full(host_rows(found, query, cloud)), status=0 if found else 1, tables=made)
-    yield Case(f'{name}: why', ['why', text, full(host.name), *version], full(why), status=1 if why.endswith('does not fit\n') else 0, tables=made)
+    yield Case(f'{name}: hosts, in sum', ['hosts', '--sum', text, *version], host_sums(found, query, cloud), status=0 if found else 1, tables=made)
+    yield Case(f'{name}: why', ['why', text, full(host.name), *version], full(why), status=0 if why.endswith(',fits\n') else 1, tables=made)
     yield Case(f'{name}: verify', ['verify', text, full(names(every[one])), *version], line, status=1 if rule else 0, tables=made)
     told = f'{line[:-1]}: {broken_detail(every[one], RULES[rule - 1], drawn_text, query, cloud)}\n' if rule else line
     yield Case(f'{name}: verify, in detail', ['verify', '--detail', text, full(names(every[one])), *version], full(told), status=1 if rule else 0, tables=made)

@@ -137,6 +137,7 @@ WORDS = [
     refused('a token for fill', over(['fill', 'resources=VCPU:2', ONE_HOST.strip()])),
     refused('--after for fill', over(['fill', 'resources=VCPU:2', '--after', ONE_HOST.strip()]), '--after'),
     refused('--sum for tokens', over(['tokens', 'resources=VCPU:2', '--sum']), '--sum'),
+    refused('--sum for why', over(['why', 'resources=VCPU:2', ONE_HOST.strip(), '--sum']), '--sum'),
     refused('--sum with a value', over(['fill', 'resources=VCPU:2', '--sum=yes']), '--sum'),
     refused('--sum twice', over(['fill', 'resources=VCPU:2', '--sum', '--sum']), '--sum'),
     refused('--no-traits for tokens', over(['tokens', 'resources=VCPU:2', '--no-traits']), '--no-traits'),
@@ -336,6 +337,7 @@ DEVICES = [
     to_full('list', over(['list', 'resources=VCPU:2'])),
     to_full('fill', over(['fill', 'resources=VCPU:2'])),
     to_full('fill, in sum', over(['fill', '--sum', 'resources=VCPU:2'])),
+    to_full('hosts, in sum', over(['hosts', '--sum', 'resources=VCPU:2'])),
     to_full('verify', over(['verify', 'resources=VCPU:2', ONE_HOST.strip()])),
     to_full('explain', over(['explain', 'resources=VCPU:2'])),
     to_full('hosts', over(['hosts', 'resources=VCPU:2'])),
@@ -374,6 +376,7 @@ GROWTHS = [
     growing('list after one, without traits', ['list', DISK, '--after', 'P9,P1', '--no-traits'], SHARED),
     growing('fill', ['fill', DISK + '&limit=3'], SHARED),
     growing('fill, in sum', ['fill', '--sum', DISK], SHARED),
+    growing('hosts, in sum', ['hosts', '--sum', DISK], SHARED),
     growing('fill, no candidate', ['fill', FIVES], ONE),
     growing('verify', ['verify', FIVES, 'P1,P2'], CHILD),
     growing('verify, an unknown provider', ['verify', FIVES, 'P1,P7'], CHILD),
@@ -402,7 +405,7 @@ KNOWN = Case('a fault is told though a growth behind it is refused', ['sh', '-c'
 
 def status_of(text):
     """The status that goes with an answer or a fault line."""
-    if re.search('^candidates: none$|,does not fit$', text, re.M):
+    if re.search('^candidates: none$|^verdict,(?!.*,fits$)', text, re.M):
         return 1
     return next((status for start, status in STATUSES.items() if text.startswith(start)), 0)
 

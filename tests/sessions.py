@@ -68,6 +68,7 @@ FAULTS = [
     (f'verify --detail {TWO} P1', ended('', 2, NUMBER)),
     (f'list --no-traits {TWO} P1', ended('', 2, NUMBER)),
     (f'fill --sum {TWO}', ended('', 2, NUMBER)),
+    (f'hosts --sum {TWO}', ended('', 2, NUMBER)),
     (f'tokens {TWO} ', ended('', 5, 'token: BadToken')),
     (f'tokens  {TWO}', ended('', 4, 'query: NoResources')),
     ('tokens ', ended('', 4, 'query: NoResources')),
@@ -95,7 +96,7 @@ NAMED = {**tables(ONE), 'providers': full('uuid,name,root_provider_uuid,parent_p
 LIKE_ENDS = [
     (f'hosts {TWO}', ended('root,name,fits,slot,lacks\nP1,?= 0?=,yes,,\n', 0)),
     (f'list {TWO}', ended(LIST_HEADER + '1,VCPU=2,P1,?= 0?=,VCPU=0/8,\n', 0)),
-    (f'why {TWO} P1', ended('slot,suffix,provider,name,lacks,detail\n1,,P1,?= 0?=,,\n,,P1,?= 0?=,,\n,,P1,?= 0?=,,fits\n', 0)),
+    (f'why {TWO} P1', ended('slot,suffix,asks,provider,name,lacks,detail\n1,,VCPU:2,P1,?= 0?=,,\nroot,,,P1,?= 0?=,,\nverdict,,,P1,?= 0?=,,fits\n', 0)),
     (f'tokens {TWO}', ended('P1\n', 0)),
 ]
 
@@ -157,7 +158,7 @@ WORDS = [
     (f'explain {TWO}', ended('slot 1 "" VCPU:2: units 1 of 1, traits 1, aggregates 1, tree 1, room 1\n'
                              'trees 1: root traits 1, each slot 1, required traits 1\ncandidates: some\n', 0)),
     (f'hosts {TWO}', ended('root,name,fits,slot,lacks\nP1,,yes,,\n', 0)),
-    (f'why {TWO} P1', ended('slot,suffix,provider,name,lacks,detail\n1,,P1,,,\n,,P1,,,\n,,P1,,,fits\n', 0)),
+    (f'why {TWO} P1', ended('slot,suffix,asks,provider,name,lacks,detail\n1,,VCPU:2,P1,,,\nroot,,,P1,,,\nverdict,,,P1,,,fits\n', 0)),
 ]
 
 # Two hosts, of which the first has three units in use.
@@ -306,7 +307,7 @@ def answer(command, asked, assignment, cloud):
     if command == 'hosts':
         return host_rows(found, query, cloud), none
     rows = why_rows(assignment[0].root(), found, text, query, cloud)
-    return rows, 1 if rows.endswith('does not fit\n') else 0
+    return rows, 0 if rows.endswith(',fits\n') else 1
 
 
 def line_of(command, text, assignment):

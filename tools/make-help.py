@@ -83,7 +83,7 @@ def manual():
     every = {}
     for name, help in of.items():
         for option in options(help):
-            every.setdefault(tuple(option.names), (option, []))[1].append(name)
+            every.setdefault((*option.names, option.told), (option, []))[1].append(name)
     usages = [line for help in of.values() for line in re.findall(r'^(?:Usage:|      ) (ac_cli .*)$', help, re.M)]
     synopsis = ''.join(re.sub(r'<(\w+)>', r'\\fI\1\\fR', roff(line)) + '\n' for line in usages)
     told = [(shown(option), option.told + ('' if len(names) == len(of) else ' (' + ', '.join(f'`{name}`' for name in names) + ')'))

@@ -33,8 +33,8 @@ SVG = '{http://www.w3.org/2000/svg}'
 ELEMENTS = {'svg', 'g', 'rect', 'path', 'text', 'title', 'defs', 'marker'}
 LETTER = 0.602
 PAGE = 2000
-LACKS = 'root traits', 'units', 'traits', 'aggregates', 'tree', 'room', 'required traits', 'together'
-OF_SLOTS = LACKS[1:6]
+LACKS = 'root traits', 'no inventory', 'units', 'traits', 'aggregates', 'tree', 'room', 'required traits', 'together'
+OF_SLOTS = LACKS[1:7]
 ODD = '<b>&amp; \\N\n"x"\x1b é</title><script>alert(1)</script>'
 SHOWN = '<b>&amp; \\N "x" é</title><script>alert(1)</script>'
 

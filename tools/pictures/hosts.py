@@ -11,8 +11,8 @@ from pictures.svg import GREY, document, lines_of, natural, rectangle, text, wid
 COLUMNS = 'root', 'name', 'fits', 'slot', 'lacks'
 FITS = 'fits'
 # What a root may lack, in the order of an explanation. People who see no red or no green can tell these colours apart too.
-COLOURS = {FITS: '#0072b2', 'root traits': '#000000', 'units': '#bdbdbd', 'traits': '#882255', 'aggregates': '#cc79a7', 'tree': '#7a5c3e',
-           'room': '#e69f00', 'required traits': '#b34700', 'together': '#fff14d'}
+COLOURS = {FITS: '#0072b2', 'root traits': '#000000', 'no inventory': '#bdbdbd', 'units': '#56b4e9', 'traits': '#882255', 'aggregates': '#cc79a7',
+           'tree': '#7a5c3e', 'room': '#e69f00', 'required traits': '#b34700', 'together': '#fff14d'}
 OTHER = '#ffffff'
 NARROW = 640  # the least width of the picture
 EDGE = 16  # the room around the picture, and between blocks

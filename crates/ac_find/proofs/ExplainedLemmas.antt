@@ -1,22 +1,26 @@
 -- Counts of providers and of roots: one more place, and what the marks of roots say.
-use Rattle.std.proofs.Common.{inl, inr, ◌≡◌, ◌∙◌, ◌<◌, ◌≤◌, ℕ, ◌+◌, Bool, true, false, ◌&&◌, List, [], ◌∷◌, length, map, nat_le, slice_index, slice_index_or, refl, sym, ap, ap₂, arith}
+use Rattle.std.proofs.Common.{inl, inr, ◌≡◌, ◌∙◌, ◌<◌, ◌≤◌, ℕ, ◌+◌, Bool, true, false, ◌&&◌, List, [], ◌∷◌, length, map, nat_le, slice_index, slice_index_or, Option, Some, None, refl, sym, ap, ap₂, arith}
 use Rattle.std.specs.Prelude.{if◌then◌else◌, take}
 use Rattle.std.specs.List.{filter, list_all, list_any, range_with_len, AllByRecursion as Each}
+use Rattle.std.specs.Option.{is_some}
 use Rattle.std.proofs.Math.Bool.{and-true}
-use Rattle.std.proofs.lemmas.Bool.{cases_Bool}
+use Rattle.std.proofs.lemmas.Bool.{cases_Bool, false≢true}
 use Rattle.std.proofs.lemmas.Bool.Decides.{nat_tests}
 use Rattle.std.proofs.lemmas.List.{length-append}
 use Rattle.std.proofs.lemmas.List.Folds.{list_all_more}
 use Rattle.std.proofs.lemmas.List.FromFn.{fill_by_all, get_or-map-range_with_len, length-map-range_with_len, length-range_with_len}
+use Rattle.ac_base.specs.Quantities.{InventoryNumbers}
 use Rattle.ac_query.specs.Asked.{Asked, Slot, slots_of}
-use Rattle.ac_cloud.specs.World.{Provider, provider_at}
+use Rattle.ac_cloud.specs.World.{Provider, is_available_at, provider_at}
 use Rattle.ac_prune.specs.Ahead.{load_of, hosts_of}
-use Rattle.ac_find.specs.Explained.{class_room, count_below, count_of, in_slot, is_served, meets_room, meets_tree}
+use Rattle.ac_find.specs.Explained.{class_room, count_below, count_of, has_inventories, has_inventory, in_slot, is_served, meets_room, meets_tree}
 use Rattle.ac_find.specs.Shown.Explained.{fitting, marked, served, served_roots}
 use Rattle.ac_prune.specs.Loads.{AreLimited}
-use Rattle.ac_rules.specs.Placed.{no_slot, slot_at}
+use Rattle.ac_rules.specs.Own.{admits, inventory_of, units_fit}
+use Rattle.ac_rules.specs.Placed.{Placed, no_slot, slot_at}
 use Rattle.ac_rules.specs.Together.{holds, takes_root}
-use Rattle.ac_rules.proofs.EachSlot.AnchorLemmas.{each_range}
+use Rattle.ac_rules.proofs.EachSlot.AnchorLemmas.{any_filter, each_range}
+use Rattle.ac_rules.proofs.EachSlot.FrontLemmas.{all_weaker}
 use Rattle.ac_rules.proofs.Elements.{each_weaker, filter_agree}
 use Rattle.ac_prune.proofs.Search.OpenLemmas.{choice_more, filter_few}
 use Rattle.ac_prune.proofs.Roots.RootLemmas.{hosts_low}
@@ -31,6 +35,23 @@ count_more test n = elim (cases_Bool (test n)) [
 -- no more than places
 pub count_few : (test : ℕ → Bool) (n : ℕ) → count_below n test ≤ n
 count_few test n = let few = filter_few test (range_with_len 0 n) in let size = length-range_with_len 0 n in omega (arith, few, size)
+
+-- whoever meets the units of a slot has its classes
+admits_some : (found : Option InventoryNumbers) (amount : ℕ) → admits found amount ≡ true → is_some found ≡ true
+admits_some None amount h = absurd (false≢true h)
+admits_some (Some inventory) amount h = refl
+
+pub units_have : (all : List Provider) (x : Placed) → units_fit all x ≡ true → has_inventories all x ≡ true
+unfolding units_fit has_inventory
+units_have all x h =
+    let p = provider_at all x.provider in
+    all_weaker (λ (need : List ℕ × ℕ). admits (inventory_of p need.0) need.1) (λ (need : List ℕ × ℕ). has_inventory p need.0)
+    (λ need. admits_some (inventory_of p need.0) need.1) x.slot.needs h
+
+-- some provider that is available in the tree of a root passes a test
+pub any_there : (all : List Provider) (r : ℕ) (test : ℕ → Bool) → list_any (λ p. is_available_at all p r && test p) (range_with_len 0 (length all)) ≡ list_any test (hosts_of all r)
+unfolding hosts_of
+any_there all r test = sym (any_filter test (λ p. is_available_at all p r) (range_with_len 0 (length all)))
 
 -- by marks of the providers that meet all but room
 pub class_marked : (all : List Provider) (slot : Slot) (need : List ℕ × ℕ) (marks : List Bool) → marks ≡ fitting all slot

@@ -12,7 +12,7 @@ use Rattle.ac_rules.specs.Lists.{IsListBelow, all_lists}
 use Rattle.ac_rules.specs.Pages.{candidates}
 use Rattle.ac_rules.specs.Placed.{assigned}
 use Rattle.ac_rules.specs.Together.{hosts_all, is_empty, takes_root, anchor}
-use Rattle.ac_find.specs.Explained.{holds_required, in_slot, is_served, meets_units, meets_traits, meets_aggregates, meets_tree, meets_room}
+use Rattle.ac_find.specs.Explained.{has_inventories, holds_required, in_slot, is_served, meets_units, meets_traits, meets_aggregates, meets_tree, meets_room}
 use Rattle.ac_prune.specs.Fitting.{fits_at}
 use Rattle.ac_find.specs.Lacking.{first_lack, first_unserved, unreached}
 use Rattle.ac_find.specs.Laws.{LackNothing, SomeFits}
@@ -24,6 +24,7 @@ use Rattle.ac_rules.proofs.Lists.ListLemmas.{each_all_lists}
 use Rattle.ac_prune.proofs.Paths.BearLemmas.{each_serves}
 use Rattle.ac_prune.proofs.Roots.HostLemmas.{behind_hosts, candidate_open, candidate_parts}
 use Rattle.ac_prune.proofs.Roots.TreeLemmas.{or_left}
+use Rattle.ac_find.proofs.ExplainedLemmas.{units_have}
 use Rattle.ac_find.proofs.NoneLemmas.{each_served, required_held}
 
 -- ---- What is lacking where a candidate stands
@@ -36,7 +37,8 @@ reached all r slot room =
     let aggregates = any_weaker (λ p. meets_tree all (in_slot slot p)) (λ p. meets_aggregates all (in_slot slot p)) (λ p h. (and_parts _ _ h).0) hosts tree in
     let traits = any_weaker (λ p. meets_aggregates all (in_slot slot p)) (λ p. meets_traits all (in_slot slot p)) (λ p h. (and_parts _ _ h).0) hosts aggregates in
     let units = any_weaker (λ p. meets_traits all (in_slot slot p)) (λ p. meets_units all (in_slot slot p)) (λ p h. (and_parts _ _ h).0) hosts traits in
-    rw (units, traits, aggregates, tree, room) refl
+    let inventories = any_weaker (λ p. meets_units all (in_slot slot p)) (λ p. has_inventories all (in_slot slot p)) (λ p h. units_have all (in_slot slot p) h) hosts units in
+    rw (inventories, units, traits, aggregates, tree, room) refl
 
 -- so where each slot has one, none of them is lacking
 all_served : (all : List Provider) (r number : ℕ) (ss : List Slot) → list_all (λ slot. is_served all r slot) ss ≡ true → first_unserved all r number ss ≡ None

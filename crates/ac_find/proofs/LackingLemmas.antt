@@ -14,7 +14,7 @@ use Rattle.ac_rules.specs.Placed.{Placed, no_slot}
 use Rattle.ac_rules.specs.Together.{takes_root}
 use Rattle.ac_prune.specs.Ahead.{hosts_of}
 use Rattle.ac_prune.specs.Trees.Keys.{is_there}
-use Rattle.ac_find.specs.Explained.{holds_required, in_slot, meets_units, meets_traits, meets_aggregates, meets_tree, meets_room}
+use Rattle.ac_find.specs.Explained.{has_inventories, holds_required, in_slot, meets_units, meets_traits, meets_aggregates, meets_tree, meets_room}
 use Rattle.ac_prune.specs.Fitting.{fits_at}
 use Rattle.ac_find.specs.Lacking.{first_lack, first_unserved, lack_at, unreached}
 use Rattle.ac_find.specs.Shown.Lacking.{AreNoted, AreReached, is_listed, lack_behind, passes, stage_behind, unserved}
@@ -49,14 +49,15 @@ pub any_more : (f g : ℕ → Bool) (p : ℕ) → list_any f (filter g (range_wi
 any_more f g p = ap (list_any f) (choice_more g p) ∙ (any_append f (filter g (range_with_len 0 p)) (cond (g p) (p ∷ []) []) ∙ ap (λ (b : Bool). list_any f (filter g (range_with_len 0 p)) || b) (any_one f (g p) p))
 
 -- how many tests are passed, one after another
-pub pass_each : (all : List Provider) (x : Placed) (met : ℕ) → nat_lt 0 met ≡ meets_units all x → nat_lt 1 met ≡ meets_traits all x → nat_lt 2 met ≡ meets_aggregates all x
-    → nat_lt 3 met ≡ meets_tree all x → nat_lt 4 met ≡ meets_room all x → (k : ℕ) → k < 5 → nat_lt k met ≡ passes k all x
-pass_each all x met a b c d e zero h = a
-pass_each all x met a b c d e (suc zero) h = b
-pass_each all x met a b c d e (suc (suc zero)) h = c
-pass_each all x met a b c d e (suc (suc (suc zero))) h = d
-pass_each all x met a b c d e (suc (suc (suc (suc zero)))) h = e
-pass_each all x met a b c d e (suc (suc (suc (suc (suc k))))) h = absurd (omega (arith, h))
+pub pass_each : (all : List Provider) (x : Placed) (met : ℕ) → nat_lt 0 met ≡ has_inventories all x → nat_lt 1 met ≡ meets_units all x → nat_lt 2 met ≡ meets_traits all x
+    → nat_lt 3 met ≡ meets_aggregates all x → nat_lt 4 met ≡ meets_tree all x → nat_lt 5 met ≡ meets_room all x → (k : ℕ) → k < 6 → nat_lt k met ≡ passes k all x
+pass_each all x met a b c d e f zero h = a
+pass_each all x met a b c d e f (suc zero) h = b
+pass_each all x met a b c d e f (suc (suc zero)) h = c
+pass_each all x met a b c d e f (suc (suc (suc zero))) h = d
+pass_each all x met a b c d e f (suc (suc (suc (suc zero)))) h = e
+pass_each all x met a b c d e f (suc (suc (suc (suc (suc zero))))) h = f
+pass_each all x met a b c d e f (suc (suc (suc (suc (suc (suc k)))))) h = absurd (omega (arith, h))
 
 -- one more provider comes so far at the roots where it is available
 pub reached_more : (all : List Provider) (slot : Slot) (k p r met : ℕ) (old new : Bool) → r < length all → nat_lt k met ≡ passes k all (in_slot slot p)
@@ -140,7 +141,7 @@ or_behind a l x = grind arith
 -- how many tests are passed says which is the first that isn't
 pub behind_reached : (all : List Provider) (slot : Slot) (passed : List ℕ) (r : ℕ) → r < length all → AreReached all slot passed → stage_behind (slice_index passed r) ≡ unreached all r slot
 behind_reached all slot passed r low reached =
-    rw (reached 0 r (omega arith) low, reached 1 r (omega arith) low, reached 2 r (omega arith) low, reached 3 r (omega arith) low, reached 4 r (omega arith) low) refl
+    rw (reached 0 r (omega arith) low, reached 1 r (omega arith) low, reached 2 r (omega arith) low, reached 3 r (omega arith) low, reached 4 r (omega arith) low, reached 5 r (omega arith) low) refl
 
 or_or : (a b c : Option Lack) → option_or (option_or a b) c ≡ option_or a (option_or b c)
 or_or None b c = refl

@@ -13,12 +13,20 @@ use Rattle.ac_cloud.specs.World.{Provider, has_trait, used_of}
 use Rattle.ac_rules.specs.Own.{admits, has_any, inventory_of, meets_rule}
 use Rattle.ac_rules.specs.Placed.{Placed}
 use Rattle.ac_rules.specs.Together.{holds}
+use Rattle.ac_find.specs.Explained.{has_inventory}
 
--- ---- Units, and room
+-- ---- Inventories, units and room
 
 -- a class, and that nothing is told of it
 abbrev pub none_text : List ℕ → List ℕ
 none_text class = class ++ codes ": no inventory"
+
+-- the first class of which the provider has no inventory
+abbrev pub first_absent : Provider → List (List ℕ × ℕ) → Option (List ℕ × ℕ)
+first_absent p needs = find (λ need. not (has_inventory p need.0)) needs
+
+abbrev pub inventory_detail : Provider → List (List ℕ × ℕ) → List ℕ
+inventory_detail p needs = option_map_or (λ need. none_text need.0) (first_absent p needs) []
 
 -- a class with its amount, and the units of the inventory
 unfoldable pub units_text : List ℕ × ℕ → Option InventoryNumbers → List ℕ

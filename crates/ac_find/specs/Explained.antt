@@ -6,12 +6,20 @@ use Rattle.std.specs.Option.{is_none, is_some}
 use Rattle.ac_query.specs.Asked.{Asked, Group, Slot, slots_of}
 use Rattle.ac_cloud.specs.World.{Provider, provider_at, id_at, has_trait, is_root}
 use Rattle.ac_rules.specs.Placed.{Placed}
-use Rattle.ac_rules.specs.Own.{units_fit, traits_fit, aggregates_fit, tree_fits, has_any}
+use Rattle.ac_rules.specs.Own.{inventory_of, units_fit, traits_fit, aggregates_fit, tree_fits, has_any}
 use Rattle.ac_rules.specs.Together.{holds, takes_root}
 use Rattle.ac_prune.specs.QuerySearch.{has_room_alone}
 use Rattle.ac_prune.specs.Ahead.{hosts_of}
 
 -- ---- What a slot's provider is asked, one after another
+
+-- a provider has an inventory of a class, however much is left of it
+unfoldable pub has_inventory : Provider → List ℕ → Bool
+has_inventory p class = is_some (inventory_of p class)
+
+-- of each class of the slot; whoever meets its units has them
+abbrev pub has_inventories : List Provider → Placed → Bool
+has_inventories all x = list_all (λ need. has_inventory (provider_at all x.provider) need.0) x.slot.needs
 
 abbrev pub meets_units : List Provider → Placed → Bool
 meets_units all x = units_fit all x

@@ -7,10 +7,10 @@ use Rattle.ac_cloud.specs.World.{Provider}
 use Rattle.ac_rules.specs.Placed.{Placed}
 use Rattle.ac_rules.specs.Together.{takes_root}
 use Rattle.ac_prune.specs.Ahead.{hosts_of}
-use Rattle.ac_find.specs.Explained.{holds_required, in_slot, meets_units, meets_traits, meets_aggregates, meets_tree, meets_room}
+use Rattle.ac_find.specs.Explained.{has_inventories, holds_required, in_slot, meets_units, meets_traits, meets_aggregates, meets_tree, meets_room}
 use Rattle.ac_prune.specs.Fitting.{fits_at}
 use Rattle.ac_find.specs.declared.lacks.Stage.{Stage}
-use Rattle.ac_find.specs.declared.lacks.Stage.TheVariants.{Units, Traits, Aggregates, Tree, Room}
+use Rattle.ac_find.specs.declared.lacks.Stage.TheVariants.{Inventory, Units, Traits, Aggregates, Tree, Room}
 use Rattle.ac_find.specs.declared.lacks.Lack.{Lack}
 use Rattle.ac_find.specs.declared.lacks.Lack.TheVariants as lack
 
@@ -19,23 +19,25 @@ abbrev pub if_failed : {X : Type 0} → Bool → X → Option X → Option X
 if_failed true lacks behind = behind
 if_failed false lacks behind = Some lacks
 
--- the first of the five tests of a slot that its provider fails
+-- the first of the six tests of a slot that its provider fails
 abbrev pub first_failed : List Provider → Placed → Option Stage
 first_failed all x =
-    if_failed (meets_units all x) Units
+    if_failed (has_inventories all x) Inventory
+    (if_failed (meets_units all x) Units
     (if_failed (meets_traits all x) Traits
     (if_failed (meets_aggregates all x) Aggregates
     (if_failed (meets_tree all x) Tree
-    (if_failed (meets_room all x) Room None))))
+    (if_failed (meets_room all x) Room None)))))
 
--- the first of the five tests of a slot that none of the providers available in the tree of a root passes
+-- the first of the six tests of a slot that none of the providers available in the tree of a root passes
 abbrev pub unreached : List Provider → ℕ → Slot → Option Stage
 unreached all r slot =
-    if_failed (list_any (λ p. meets_units all (in_slot slot p)) (hosts_of all r)) Units
+    if_failed (list_any (λ p. has_inventories all (in_slot slot p)) (hosts_of all r)) Inventory
+    (if_failed (list_any (λ p. meets_units all (in_slot slot p)) (hosts_of all r)) Units
     (if_failed (list_any (λ p. meets_traits all (in_slot slot p)) (hosts_of all r)) Traits
     (if_failed (list_any (λ p. meets_aggregates all (in_slot slot p)) (hosts_of all r)) Aggregates
     (if_failed (list_any (λ p. meets_tree all (in_slot slot p)) (hosts_of all r)) Tree
-    (if_failed (list_any (λ p. meets_room all (in_slot slot p)) (hosts_of all r)) Room None))))
+    (if_failed (list_any (λ p. meets_room all (in_slot slot p)) (hosts_of all r)) Room None)))))
 
 -- the first of some slots, which are numbered from here, that none of them serves by itself: its number, and the test
 abbrev pub first_unserved : List Provider → ℕ → ℕ → List Slot → Option Lack

@@ -5,3 +5,4 @@ pub mod Shown
 pub mod Explained
 pub mod Lacking
 pub mod Laws
+pub mod Unheld

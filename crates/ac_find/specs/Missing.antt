@@ -3,7 +3,9 @@ use Rattle.std.specs.Prelude.{◌≡◌, ℕ, ◌<◌, ◌&&◌, ◌||◌, Bool,
 use Rattle.std.specs.List.{list_any, range_with_len}
 use Rattle.std.specs.Option.{is_some}
 use Rattle.ac_cloud.specs.World.{Provider, entry_in, has_trait, is_member, is_root, place_of, provider_at}
+use Rattle.ac_prune.specs.Ahead.{hosts_of}
 use Rattle.ac_rules.specs.Own.{has_any}
+use Rattle.ac_find.specs.Explained.{has_inventory}
 
 -- some provider passes a test, by its place
 abbrev pub someone : List Provider → (Provider → Bool) → Bool
@@ -12,6 +14,10 @@ someone all test = list_any (λ ix. test (provider_at all ix)) (range_with_len 0
 -- some provider has an inventory of a class, however much is left of it
 unfoldable pub somebody_has_class : List Provider → List ℕ → Bool
 somebody_has_class all class = someone all (λ p. is_some (entry_in p class))
+
+-- some provider that is available in the tree of a root has one
+abbrev pub somebody_there_has_class : List Provider → ℕ → List ℕ → Bool
+somebody_there_has_class all r class = list_any (λ p. has_inventory (provider_at all p) class) (hosts_of all r)
 
 -- some provider has a trait
 unfoldable pub somebody_has_trait : List Provider → List ℕ → Bool

@@ -7,7 +7,7 @@ ghost use Rattle.ac_cloud.specs.Cloud.CloudWorld.{providers_of};
 ghost use Rattle.ac_query.specs.Asked.{slots_of};
 ghost use Rattle.ac_query.specs.Shown.Queries.{asked_of};
 ghost use Rattle.ac_rules.specs.Placed.{slot_at};
-ghost use Rattle.ac_find.specs.Explained.{count_of, meets_units, meets_traits, meets_aggregates, meets_tree, meets_room, slot_counts, tree_counts};
+ghost use Rattle.ac_find.specs.Explained.{count_of, has_inventories, meets_units, meets_traits, meets_aggregates, meets_tree, meets_room, slot_counts, tree_counts};
 ghost use Rattle.ac_prune.specs.QuerySearch.{has_room_alone};
 ghost use Rattle.ac_rules.specs.Shown.Assignments.{placed_of};
 ghost use Rattle.ac_find.specs.Shown.Explained.{marked, served, served_roots, slot_counted, trees_counted};
@@ -15,6 +15,7 @@ ghost use Rattle.ac_find.specs.Shown.Explained.{marked, served, served_roots, sl
 mod classes;
 pub(crate) mod required;
 
+use crate::inventories::has_inventories;
 use ac_base::NoMemory;
 use ac_cloud::Cloud;
 use ac_prune::{limit, taken_roots};
@@ -69,35 +70,38 @@ fn has_room_alone(placed: &Placed) -> bool
     true
 }
 
-// How many of the rules of its slot a provider meets, one after another: the four of its own, and room for what the slot alone asks.
+// How many of the tests of its slot a provider passes, one after another: inventories of its classes, the slot's own four
+// rules, and room for what the slot alone asks.
 pub(crate) fn count_met(placed: &Placed) -> u32
-    ensures units { nat_lt 0 result
+    ensures inventories { nat_lt 0 result
+        ≡ has_inventories (providers_of placed.now.cloud.now) (placed_of placed.now) }
+    ensures units { nat_lt 1 result
         ≡ meets_units (providers_of placed.now.cloud.now) (placed_of placed.now) }
-    ensures traits { nat_lt 1 result
+    ensures traits { nat_lt 2 result
         ≡ meets_traits (providers_of placed.now.cloud.now) (placed_of placed.now) }
-    ensures aggregates { nat_lt 2 result
+    ensures aggregates { nat_lt 3 result
         ≡ meets_aggregates (providers_of placed.now.cloud.now) (placed_of placed.now) }
-    ensures tree { nat_lt 3 result
+    ensures tree { nat_lt 4 result
         ≡ meets_tree (providers_of placed.now.cloud.now) (placed_of placed.now) }
-    ensures room { nat_lt 4 result
+    ensures room { nat_lt 5 result
         ≡ meets_room (providers_of placed.now.cloud.now) (placed_of placed.now) }
 {
     if !placed.has_units() {
-        return 0;
+        return u32::from(has_inventories(placed));
     }
     if !placed.has_slot_traits() {
-        return 1;
-    }
-    if !placed.has_aggregates() {
         return 2;
     }
-    if !placed.is_in_tree() {
+    if !placed.has_aggregates() {
         return 3;
     }
-    if !has_room_alone(placed) {
+    if !placed.is_in_tree() {
         return 4;
     }
-    5
+    if !has_room_alone(placed) {
+        return 5;
+    }
+    6
 }
 
 /// How many providers meet what a slot asks. It takes no memory.
@@ -114,11 +118,11 @@ pub fn slot_counts(cloud: &Cloud, query: &Query, s: usize) -> SlotCounts
     let mut room = 0;
     for ix in 0..cloud.len() {
         let met = count_met(&Placed::new(cloud, query, s, ix));
-        units += u32::from(met > 0);
-        traits += u32::from(met > 1);
-        aggregates += u32::from(met > 2);
-        tree += u32::from(met > 3);
-        room += u32::from(met > 4);
+        units += u32::from(met > 1);
+        traits += u32::from(met > 2);
+        aggregates += u32::from(met > 3);
+        tree += u32::from(met > 4);
+        room += u32::from(met > 5);
     }
     SlotCounts {
         units,

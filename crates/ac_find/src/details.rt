@@ -7,11 +7,12 @@ ghost use Rattle.ac_cloud.specs.Cloud.CloudWorld.{providers_of};
 ghost use Rattle.ac_query.specs.Shown.Groups.{need_entry, rule_shown};
 ghost use Rattle.ac_rules.specs.Own.{inventory_of};
 ghost use Rattle.ac_rules.specs.Shown.Assignments.{placed_of};
-ghost use Rattle.ac_find.specs.Details.{aggregates_detail, first_short, first_unadmitted, first_unmet, forbids_mark, list_mark, more_text, none_text, room_detail, room_text, rule_text, tree_detail, units_detail, units_text};
+ghost use Rattle.ac_find.specs.Details.{aggregates_detail, first_absent, first_short, first_unadmitted, first_unmet, forbids_mark, inventory_detail, list_mark, more_text, none_text, room_detail, room_text, rule_text, tree_detail, units_detail, units_text};
 
 pub(crate) mod traits;
 
 pub use self::traits::{root_detail, traits_detail};
+use crate::inventories::has_inventory;
 use ac_base::{Id, NoMemory};
 use ac_query::{AggregateRule, Need, write_ids};
 use ac_rules::Placed;
@@ -23,6 +24,29 @@ pub(crate) fn none_text(alloc: Global, class: &str) -> Result<String, NoMemory>
     ensures { IfOk result (λ text. string_bytes text ≡ none_text class.now) }
 {
     Ok(format!(in alloc; "{class}: no inventory")?)
+}
+
+// The first class of which the provider has no inventory.
+fn first_absent<'a>(placed: &Placed, needs: &'a [Need]) -> Option<&'a Need>
+    ensures { option_map (λ need. need_entry need.now) result ≡ first_absent
+        (provider_at (providers_of placed.now.cloud.now) placed.now.provider)
+        (map need_entry needs.now) }
+{
+    needs
+        .iter()
+        .find(|need| !has_inventory(&placed.its_provider(), need))
+}
+
+/// The first class of which the provider has no inventory.
+pub fn inventory_detail(alloc: Global, placed: &Placed) -> Result<String, NoMemory>
+    ensures { IfOk result (λ text. string_bytes text ≡ inventory_detail
+        (provider_at (providers_of placed.now.cloud.now) placed.now.provider)
+        (placed_of placed.now).slot.needs) }
+{
+    match first_absent(placed, placed.needs()) {
+        Some(need) => none_text(alloc, need.class().text()),
+        None => Ok(String::new(alloc)),
+    }
 }
 
 // A class with its amount, and the units of the provider's inventory.

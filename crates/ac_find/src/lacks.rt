@@ -28,7 +28,9 @@ use std::alloc::Global;
 /// before it.
 #[derive(Clone, Copy, Debug, PartialEq, Eq)]
 pub enum Stage {
-    /// It has inventories whose units admit the slot's amounts.
+    /// It has an inventory of each of the slot's classes.
+    Inventory,
+    /// The units of these inventories admit the slot's amounts.
     Units,
     /// It has no forbidden trait of the slot's group, and in a suffixed group what it requires.
     Traits,
@@ -58,11 +60,12 @@ fn stage_behind(passed: u32) -> Option<Stage>
     ensures { result ≡ stage_behind passed }
 {
     match passed {
-        0 => Some(Stage::Units),
-        1 => Some(Stage::Traits),
-        2 => Some(Stage::Aggregates),
-        3 => Some(Stage::Tree),
-        4 => Some(Stage::Room),
+        0 => Some(Stage::Inventory),
+        1 => Some(Stage::Units),
+        2 => Some(Stage::Traits),
+        3 => Some(Stage::Aggregates),
+        4 => Some(Stage::Tree),
+        5 => Some(Stage::Room),
         _ => None,
     }
 }

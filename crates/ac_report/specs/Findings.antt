@@ -1,4 +1,6 @@
 -- The texts of what is found.
+pub mod Asks
 pub mod Explanation
 pub mod HostRows
+pub mod HostSums
 pub mod WhyRows

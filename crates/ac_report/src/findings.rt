@@ -1,12 +1,15 @@
 //! The texts of what is found of a cloud and a query: explanations, and rows of hosts.
 
+mod asks;
 mod explanation;
 mod host_rows;
+mod host_sums;
 mod lacks;
 mod question;
 mod why_rows;
 
 pub use explanation::{FoundWithout, Told, explanation_status, find_without, has_candidate};
 pub use host_rows::{hosts_status, hosts_text};
+pub use host_sums::sums_text;
 pub use question::Question;
 pub use why_rows::{root_place, why_at};

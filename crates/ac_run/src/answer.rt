@@ -7,7 +7,9 @@ ghost use Rattle.ac_cloud.specs.Cloud.CloudWorld.{providers_of, world_of};
 ghost use Rattle.ac_query.specs.Asked.{slots_of};
 ghost use Rattle.ac_query.specs.Shown.Queries.{asked_of};
 ghost use Rattle.ac_query.specs.Tokens.{ids_of};
-ghost use Rattle.ac_run.specs.Answer.{explanation, host_rows, page_body, page_lines, page_rows, verdict_line, verdict_on, why_not, written};
+ghost use Rattle.ac_prune.specs.Fitting.{fitting};
+ghost use Rattle.ac_find.specs.Lacking.{lacks_of};
+ghost use Rattle.ac_run.specs.Answer.{explanation, host_rows, hosts_told, page_body, page_lines, page_rows, verdict_line, verdict_on, why_not, written};
 ghost use Rattle.ac_run.specs.Wanted.{IsSound, answer_to};
 ghost use Rattle.ac_run.specs.Outputs.{counts, detailed_text, verdict_status, verdict_text};
 ghost use Rattle.ac_rules.specs.declared.verdict.Verdict.TheVariants as Verdict;
@@ -22,11 +24,11 @@ use crate::outputs::{detailed_line, push_counts, push_text, push_verdict, verdic
 use crate::placements::write_fill;
 use crate::wanted::Wanted;
 use ac_base::{NoMemory, Sink};
-use ac_find::{all_slots, broken_detail, find_lacks, tree_counts};
+use ac_find::{Lack, all_slots, broken_detail, find_lacks, tree_counts};
 use ac_query::{Query, Token};
 use ac_report::findings::{
     Question, Told, explanation_status, find_without, has_candidate, hosts_status, hosts_text,
-    root_place, why_at,
+    root_place, sums_text, why_at,
 };
 use ac_report::{PageFault, write_list, write_shown_page, write_tokens};
 use ac_rules::{Assignment, InCloud, Rule, Verdict, verify};
@@ -250,23 +252,45 @@ fn write_explanation<W: Sink>(
     Ok(explanation_status(found))
 }
 
-// Which roots fit, and what the others lack.
+// The rows of the roots, or how many of them lack what.
+fn hosts_told(
+    alloc: Global,
+    cloud: &Cloud,
+    query: &Query,
+    sum: bool,
+    fits: &[bool],
+    lacks: &[Option<Lack>],
+) -> Result<Vec<u8>, NoMemory>
+    requires fits { fits.now ≡ fitting (providers_of cloud.now) (asked_of query.now) }
+    requires lacks { lacks.now ≡ lacks_of (providers_of cloud.now) (asked_of query.now) }
+    ensures { IfOk result (λ text.
+        text.items ≡ hosts_told sum (providers_of cloud.now) (asked_of query.now)) }
+{
+    if sum {
+        sums_text(alloc, cloud, query, lacks)
+    } else {
+        hosts_text(alloc, cloud, query, fits, lacks)
+    }
+}
+
+// Which roots fit, and what the others lack, or how many of them lack what.
 #[tactic(auto, using(crate::proofs::Delivering::refused))]
 fn write_hosts<W: Sink>(
     alloc: Global,
     cloud: &Cloud,
     query: &Query,
+    sum: bool,
     tries: Option<u64>,
     out: &mut W,
 ) -> Result<u8, PageFault>
-    ensures { Delivers (host_rows (providers_of cloud.now) (asked_of query.now) None)
+    ensures { Delivers (host_rows (providers_of cloud.now) sum (asked_of query.now) None)
         (MayStop tries (providers_of cloud.now) (asked_of query.now) None)
         result
         (W.taken out.old) (W.taken out.new) (W.failures out.old) (W.failures out.new) }
 {
     let fits = fitting_roots(alloc, cloud, query, tries)?;
     let lacks = find_lacks(alloc, cloud, query, &fits)?;
-    let text = hosts_text(alloc, cloud, query, &fits, &lacks)?;
+    let text = hosts_told(alloc, cloud, query, sum, &fits, &lacks)?;
     push_text(out, &text, hosts_status(&fits))
 }
 
@@ -318,7 +342,7 @@ pub fn write_answer<W: Sink>(
             write_verdict(alloc, cloud, query, token, *detail, out)
         }
         Wanted::Explanation(question) => write_explanation(alloc, cloud, question, tries, out),
-        Wanted::Hosts(query) => write_hosts(alloc, cloud, query, tries, out),
+        Wanted::Hosts(query, sum) => write_hosts(alloc, cloud, query, *sum, tries, out),
         Wanted::Why(query, host) => write_why(alloc, cloud, query, *host, tries, out),
     }
 }

@@ -34,8 +34,10 @@ pub enum Command<'a> {
     },
     /// Writes how many providers and roots come how far, and whether there is a candidate.
     Explain,
-    /// Writes at which roots candidates stand, and what the others lack.
-    Hosts,
+    /// Writes at which roots candidates stand, and what the others lack, or how many of them lack what.
+    Hosts {
+        sum: bool,
+    },
     /// Writes how far each provider of a host comes, and what it lacks. A host is a provider's UUID, or a name that no other provider has.
     Why {
         host: &'a str,

@@ -178,7 +178,7 @@ const TOKENS: Case = Case {
 };
 
 // An answer of each command over one provider.
-static ANSWERS: [Case; 9] = [
+static ANSWERS: [Case; 10] = [
     Case {
         output: "@1\n",
         ..TOKENS
@@ -209,13 +209,21 @@ static ANSWERS: [Case; 9] = [
         ..TOKENS
     },
     Case {
-        command: Command::Hosts,
+        command: Command::Hosts { sum: false },
         output: "root,name,fits,slot,lacks\n@1,,yes,,\n",
         ..TOKENS
     },
     Case {
+        command: Command::Hosts { sum: true },
+        output: "hosts,slot,lacks\n1,,fits\n",
+        ..TOKENS
+    },
+    Case {
         command: Command::Why { host: "@1" },
-        output: "slot,suffix,provider,name,lacks,detail\n1,,@1,,,\n,,@1,,,\n,,@1,,,fits\n",
+        output: "slot,suffix,asks,provider,name,lacks,detail\n\
+            1,,VCPU:2,@1,,,\n\
+            root,,,@1,,,\n\
+            verdict,,,@1,,,fits\n",
         ..TOKENS
     },
     Case {
@@ -260,7 +268,7 @@ fn with_text<'a>(command: Command<'static>, text: Option<&'a str>) -> Command<'a
             token: text.unwrap_or(""),
         },
         Command::Explain => Command::Explain,
-        Command::Hosts => Command::Hosts,
+        Command::Hosts { sum } => Command::Hosts { sum },
         Command::Why { .. } => Command::Why {
             host: text.unwrap_or(""),
         },

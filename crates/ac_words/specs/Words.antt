@@ -95,7 +95,7 @@ abbrev pub explain_app : App
 explain_app = with_tries (query_app (codes "explain"))
 
 abbrev pub hosts_app : App
-hosts_app = with_tries (query_app (codes "hosts"))
+hosts_app = with_rule (with_tries (query_app (codes "hosts"))) (flag_rule (codes "sum"))
 
 abbrev pub why_app : App
 why_app = with_tries (with_rule (query_app (codes "why")) (word_rule (codes "host")))
@@ -247,16 +247,20 @@ after_of rows = first_of (codes "after") rows
 abbrev pub traits_of : List Row → Bool
 traits_of rows = not (is_set (first_of (codes "no-traits") rows))
 
+-- whether numbers are written in place of what is counted
+abbrev pub sum_of : List Row → Bool
+sum_of rows = is_set (first_of (codes "sum") rows)
+
 -- what the entries of a command call for; none where one that it needs isn't there
 unfoldable pub call_of : Name → List Row → Option Call
 call_of name.Check rows = Some (job check [])
 call_of name.Candidates rows = asking rows (candidates (after_of rows) (traits_of rows))
 call_of name.Tokens rows = asking rows (tokens (after_of rows))
 call_of name.List rows = asking rows (list (after_of rows) (traits_of rows))
-call_of name.Fill rows = asking rows (fill (is_set (first_of (codes "sum") rows)))
+call_of name.Fill rows = asking rows (fill (sum_of rows))
 call_of name.Verify rows = option_and_then (λ token. asking rows (verify token)) (first_of (codes "token") rows)
 call_of name.Explain rows = asking rows explain
-call_of name.Hosts rows = asking rows hosts
+call_of name.Hosts rows = asking rows (hosts (sum_of rows))
 call_of name.Why rows = option_and_then (λ host. asking rows (why host)) (first_of (codes "host") rows)
 call_of name.Session rows = Some session
 

@@ -7,24 +7,25 @@ use Rattle.ac_cloud.specs.World.{Provider}
 use Rattle.ac_rules.specs.Placed.{Placed}
 use Rattle.ac_prune.specs.Ahead.{hosts_of}
 use Rattle.ac_prune.specs.Trees.Keys.{is_there}
-use Rattle.ac_find.specs.Explained.{in_slot, meets_units, meets_traits, meets_aggregates, meets_tree, meets_room}
+use Rattle.ac_find.specs.Explained.{has_inventories, in_slot, meets_units, meets_traits, meets_aggregates, meets_tree, meets_room}
 use Rattle.ac_find.specs.Lacking.{first_unserved, if_failed}
 use Rattle.ac_find.specs.declared.lacks.Stage.{Stage}
-use Rattle.ac_find.specs.declared.lacks.Stage.TheVariants.{Units, Traits, Aggregates, Tree, Room}
+use Rattle.ac_find.specs.declared.lacks.Stage.TheVariants.{Inventory, Units, Traits, Aggregates, Tree, Room}
 use Rattle.ac_find.specs.declared.lacks.Lack.{Lack}
 use Rattle.ac_find.specs.declared.lacks.Lack.TheVariants as lack
 
--- the five tests of a slot's provider by their number, from 0
+-- the six tests of a slot's provider by their number, from 0
 abbrev pub passes : ℕ → List Provider → Placed → Bool
-passes zero all x = meets_units all x
-passes (suc zero) all x = meets_traits all x
-passes (suc (suc zero)) all x = meets_aggregates all x
-passes (suc (suc (suc zero))) all x = meets_tree all x
-passes (suc (suc (suc (suc k)))) all x = meets_room all x
+passes zero all x = has_inventories all x
+passes (suc zero) all x = meets_units all x
+passes (suc (suc zero)) all x = meets_traits all x
+passes (suc (suc (suc zero))) all x = meets_aggregates all x
+passes (suc (suc (suc (suc zero)))) all x = meets_tree all x
+passes (suc (suc (suc (suc (suc k))))) all x = meets_room all x
 
 -- of each root as many tests as some provider available in its tree passes
 abbrev pub AreReached : List Provider → Slot → List ℕ → Type 0
-AreReached all slot passed = (k r : ℕ) → k < 5 → r < length all → nat_lt k (slice_index passed r) ≡ list_any (λ p. passes k all (in_slot slot p)) (hosts_of all r)
+AreReached all slot passed = (k r : ℕ) → k < 6 → r < length all → nat_lt k (slice_index passed r) ≡ list_any (λ p. passes k all (in_slot slot p)) (hosts_of all r)
 
 -- some list that has a root came so far
 abbrev pub is_listed : ℕ → List (List ℕ) → List ℕ → ℕ → Bool
@@ -32,17 +33,18 @@ is_listed k lists reached r = list_any (λ j. is_there (get_or lists j []) r && 
 
 -- the same, where lists of roots are noted for themselves
 abbrev pub AreReachedBeside : List Provider → Slot → List (List ℕ) → List ℕ → List ℕ → Type 0
-AreReachedBeside all slot lists reached passed = (k r : ℕ) → k < 5 → r < length all
+AreReachedBeside all slot lists reached passed = (k r : ℕ) → k < 6 → r < length all
     → (nat_lt k (slice_index passed r) || is_listed k lists reached r) ≡ list_any (λ p. passes k all (in_slot slot p)) (hosts_of all r)
 
 -- the first test that isn't passed where so many are
 abbrev pub stage_behind : ℕ → Option Stage
 stage_behind n =
-    if_failed (nat_lt 0 n) Units
-    (if_failed (nat_lt 1 n) Traits
-    (if_failed (nat_lt 2 n) Aggregates
-    (if_failed (nat_lt 3 n) Tree
-    (if_failed (nat_lt 4 n) Room None))))
+    if_failed (nat_lt 0 n) Inventory
+    (if_failed (nat_lt 1 n) Units
+    (if_failed (nat_lt 2 n) Traits
+    (if_failed (nat_lt 3 n) Aggregates
+    (if_failed (nat_lt 4 n) Tree
+    (if_failed (nat_lt 5 n) Room None)))))
 
 -- what is lacking of a slot where so many tests are passed
 abbrev pub lack_behind : ℕ → ℕ → Option Lack

@@ -84,15 +84,19 @@ impl<'a> Serving<'a> {
 
 // The providers that meet all that some slot without a suffix asks.
 #[derive(Drop)]
-struct Unsuffixed<'a> {
-    cloud: &'a Cloud,
-    query: &'a Query,
+pub(crate) struct Unsuffixed<'a> {
+    pub(crate) cloud: &'a Cloud,
+    pub(crate) query: &'a Query,
     serving: Vec<bool>,
     ghost counted: { serving.items ≡ unsuffixed (providers_of cloud.now) (asked_of query.now) },
 }
 
 impl<'a> Unsuffixed<'a> {
-    fn new(alloc: Global, cloud: &'a Cloud, query: &'a Query) -> Result<Unsuffixed<'a>, NoMemory>
+    pub(crate) fn new(
+        alloc: Global,
+        cloud: &'a Cloud,
+        query: &'a Query,
+    ) -> Result<Unsuffixed<'a>, NoMemory>
         ensures cloud { IfOk result (λ unsuffixed. unsuffixed.cloud ≡ cloud.entry) }
         ensures query { IfOk result (λ unsuffixed. unsuffixed.query ≡ query.entry) }
     {
@@ -105,7 +109,7 @@ impl<'a> Unsuffixed<'a> {
     }
 
     // Whether a provider is one of them.
-    fn has(&self, ix: u32) -> bool
+    pub(crate) fn has(&self, ix: u32) -> bool
         requires { ix < length (providers_of self.now.cloud.now) }
         ensures { result ≡ serves_unsuffixed (providers_of self.now.cloud.now)
             (asked_of self.now.query.now) ix }
@@ -114,7 +118,7 @@ impl<'a> Unsuffixed<'a> {
     }
 
     // Whether a provider is one of them, and has one of these traits, which rise.
-    fn holds(&self, ix: u32, names: &[TraitName]) -> bool
+    pub(crate) fn holds(&self, ix: u32, names: &[TraitName]) -> bool
         requires provider { ix < length (providers_of self.now.cloud.now) }
         requires sorted { IsStrictlySortedBy text_cmp (map trait_bytes names.now) }
         ensures { result ≡ (serves_unsuffixed (providers_of self.now.cloud.now)

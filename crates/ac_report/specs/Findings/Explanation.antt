@@ -12,21 +12,13 @@ use Rattle.ac_cloud.specs.World.{Provider}
 use Rattle.ac_find.specs.Explained.{SlotCounts, SlotTold, TreeCounts, slot_counts, slot_told, tree_counts}
 use Rattle.ac_rules.specs.Placed.{slot_at}
 use Rattle.ac_rules.specs.Together.{is_empty}
+use Rattle.ac_report.specs.Findings.Asks.{needs_text}
 use Rattle.ac_report.specs.Findings.Explanation.Candidates.{candidates_line, found_without, without_lines}
 use Rattle.ac_report.specs.Findings.Explanation.Nobody.{nobody_lines}
 use Rattle.ac_base.specs.Writing.Pieces.{newline, printed, said}
 use Rattle.ac_report.specs.Findings.Explanation.Differing.{differs_lines}
 
 -- ---- A slot
-
--- a class with its amount, behind a mark
-unfoldable pub need_text : List ℕ → List ℕ × ℕ → List ℕ
-need_text mark need = said (mark ∷ need.0 ∷ codes ":" ∷ decimal need.1 ∷ [])
-
--- classes with their amounts: the first behind a blank, each further one behind a comma
-abbrev pub needs_text : List (List ℕ × ℕ) → List ℕ
-needs_text [] = []
-needs_text (need ∷ needs) = need_text (codes " ") need ++ flat_map (λ need. need_text (codes ",") need) needs
 
 -- a slot by its number and the suffix of its group
 unfoldable pub slot_name : ℕ → Slot → List ℕ
@@ -57,7 +49,7 @@ slot_end rooms = if is_empty rooms then codes "\n" else codes ")\n"
 
 abbrev pub slot_line : List Provider → ℕ → Slot → SlotTold → List ℕ
 slot_line all number slot told =
-    (slot_name number slot ++ needs_text slot.needs) ++ (slot_counted (length all) told.counts ++ (each_room slot.needs told.rooms ++ slot_end told.rooms))
+    (slot_name number slot ++ needs_text (codes " ") slot.needs) ++ (slot_counted (length all) told.counts ++ (each_room slot.needs told.rooms ++ slot_end told.rooms))
 
 -- a line for each slot, numbered from 1
 abbrev pub slot_lines : List Provider → Asked → List ℕ
@@ -96,7 +88,7 @@ because = codes "because "
 
 -- a slot that no provider serves, and at which of its tests all fail
 abbrev pub slot_reason : ℕ → ℕ → Slot → SlotCounts → List ℕ
-slot_reason providers number slot c = because ++ ((slot_name number slot ++ needs_text slot.needs) ++ fallen_text providers c)
+slot_reason providers number slot c = because ++ ((slot_name number slot ++ needs_text (codes " ") slot.needs) ++ fallen_text providers c)
 
 -- where each slot is served by some provider: what no root has
 abbrev pub trees_reason : TreeCounts → List ℕ

@@ -29,6 +29,7 @@ slot_shown (Some (lack.Slot slot stage)) = decimal slot
 slot_shown _ = []
 
 abbrev pub stage_name : Stage → List ℕ
+stage_name stage.Inventory = codes "no inventory"
 stage_name stage.Units = codes "units"
 stage_name stage.Traits = codes "traits"
 stage_name stage.Aggregates = codes "aggregates"

@@ -6,7 +6,7 @@ mod differences;
 mod nobody;
 mod without;
 
-ghost use Rattle.std.specs.Prelude.{◌≡◌, ◌+◌, ◌<◌, ◌≤◌, ◌++◌, Err, IfOk, None, length, map};
+ghost use Rattle.std.specs.Prelude.{◌≡◌, ◌+◌, ◌<◌, ◌≤◌, ◌++◌, Err, IfOk, None, codes, length, map};
 ghost use Rattle.ac_cloud.specs.Cloud.CloudWorld.{providers_of};
 ghost use Rattle.ac_query.specs.Asked.{slots_of};
 ghost use Rattle.ac_query.specs.Shown.Groups.{need_entry};
@@ -14,7 +14,8 @@ ghost use Rattle.ac_query.specs.Shown.Queries.{asked_of};
 ghost use Rattle.ac_find.specs.Explained.{slot_told, tree_counts};
 ghost use Rattle.ac_find.specs.Shown.Explained.{slot_counted as counts_shown, slot_shown, trees_counted as trees_shown};
 ghost use Rattle.ac_rules.specs.Placed.{slot_at};
-ghost use Rattle.ac_report.specs.Findings.Explanation.{because_line, each_room, explanation_status, need_text, needs_text, room_mark, room_text, slot_counted, slot_end, slot_line, slot_lines, slot_name, told_text, trees_line};
+ghost use Rattle.ac_report.specs.Findings.Asks.{needs_text};
+ghost use Rattle.ac_report.specs.Findings.Explanation.{because_line, each_room, explanation_status, room_mark, room_text, slot_counted, slot_end, slot_line, slot_lines, slot_name, told_text, trees_line};
 ghost use Rattle.ac_report.specs.Findings.Explanation.Candidates.{candidates_line, has_candidate, without_lines};
 ghost use Rattle.ac_report.specs.Findings.Explanation.Differing.{differs_lines};
 ghost use Rattle.ac_report.specs.Findings.Explanation.Nobody.{nobody_lines};
@@ -28,6 +29,7 @@ use self::differences::push_differences;
 use self::nobody::push_missing;
 use self::without::push_without;
 pub use self::without::{FoundWithout, find_without};
+use crate::findings::asks::push_needs;
 use crate::request::suffix_text;
 use ac_base::pieces::digits::Digits;
 use ac_base::pieces::push_pieces;
@@ -39,39 +41,6 @@ use ac_rules::Source;
 use ac_rules::slots::{group_at, needs_at};
 use ac_search::{SearchFault, Walk};
 use std::alloc::Global;
-
-// A class with its amount, behind a mark.
-#[tactic(auto, unfolding(crate::specs::Findings::Explanation::need_text))]
-fn push_need<W: Sink>(out: &mut W, mark: &[u8], need: &Need) -> Result<(), WriteFailed>
-    ensures { Pushes W.taken W.failures out.old out.new result
-        (need_text mark.now (need_entry need.now)) }
-{
-    push_pieces(
-        out,
-        &[
-            mark,
-            need.class().text().as_bytes(),
-            b":",
-            Digits::of(need.amount()).as_bytes(),
-        ],
-    )
-}
-
-// All classes of a slot.
-#[tactic(auto, using(crate::proofs::FoundTexts::ItemsWritten::item_part, ac_base::proofs::Leaving::behind), unfolding(crate::specs::Findings::Explanation::needs_text))]
-fn push_needs<W: Sink>(out: &mut W, needs: &[Need]) -> Result<(), WriteFailed>
-    ensures { Pushes W.taken W.failures out.old out.new result
-        (needs_text (map need_entry needs.now)) }
-{
-    let Some((first, others)) = needs.split_first() else {
-        return Ok(());
-    };
-    push_need(out, b" ", first)?;
-    for need in others {
-        push_need(out, b",", need)?;
-    }
-    Ok(())
-}
 
 // A slot by its number and the suffix of its group.
 #[tactic(auto, unfolding(crate::specs::Findings::Explanation::slot_name))]
@@ -160,10 +129,10 @@ fn push_asked<W: Sink>(out: &mut W, query: &Query, s: usize) -> Result<(), Write
     requires { s < length (slots_of (asked_of query.now)) }
     ensures { Pushes W.taken W.failures out.old out.new result
         (slot_name (s + 1) (slot_at (asked_of query.now) s)
-        ++ needs_text (slot_at (asked_of query.now) s).needs) }
+        ++ needs_text (codes " ") (slot_at (asked_of query.now) s).needs) }
 {
     push_name(out, query, s)?;
-    push_needs(out, needs_at(query, s))
+    push_needs(out, b" ", needs_at(query, s))
 }
 
 // What is told of a slot, behind what it asks.

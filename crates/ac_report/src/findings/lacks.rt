@@ -11,6 +11,7 @@ pub(crate) fn stage_name(stage: Stage) -> &'static [u8]
     ensures { result.now ≡ stage_name stage }
 {
     match stage {
+        Stage::Inventory => b"no inventory",
         Stage::Units => b"units",
         Stage::Traits => b"traits",
         Stage::Aggregates => b"aggregates",

@@ -61,10 +61,10 @@ static SUMS_AND_NONE: [Case; 6] = [
             aggregates: "@1,@a\n",
             ..ONE
         },
-        output: "slot,suffix,provider,name,lacks,detail\n\
-            1,1,@1,,aggregates,\"member_of=!in:@a,@b\"\n\
-            ,,@1,,root traits,CUSTOM_R missing\n\
-            ,,@1,,root traits,does not fit\n",
+        output: "slot,suffix,asks,provider,name,lacks,detail\n\
+            1,1,VCPU:2,@1,,aggregates,\"member_of=!in:@a,@b\"\n\
+            root,,,@1,,root traits,CUSTOM_R missing\n\
+            verdict,,,@1,,root traits,does not fit\n",
         status: 1,
         ..TOKENS
     },

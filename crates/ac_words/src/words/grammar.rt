@@ -327,7 +327,12 @@ fn hosts<'a>(alloc: Global) -> Result<Command<'a>, AllocError>
          ac_cli hosts [OPTIONS] --providers <FILE> --inventories <FILE> <QUERY>",
         help::HOSTS,
     )?;
-    add_tries(alloc, command)
+    let command = add_tries(alloc, command)?;
+    command.arg(flag(
+        alloc,
+        "sum",
+        "Writes how many roots lack what, in place of a row for each",
+    ))
 }
 
 fn why<'a>(alloc: Global) -> Result<Command<'a>, AllocError>

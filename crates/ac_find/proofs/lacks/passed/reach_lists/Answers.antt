@@ -32,7 +32,7 @@ loop-ix-preserved c =
     let was = λ (k r : ℕ). nat_lt k (slice_index c.loop-ix.passed r) in
     let listed = λ (k r : ℕ). is_listed k lists c.loop-ix.reached.items r in
     let here = λ (k r : ℕ). is_there (anchors_of all c.loop-ix.ix) r && nat_lt k met in
-    let own = pass_each all (placed_at (asked_of c.args.query.now) c.args.s c.loop-ix.ix) met tests.units tests.traits tests.aggregates tests.tree tests.room in
+    let own = pass_each all (placed_at (asked_of c.args.query.now) c.args.s c.loop-ix.ix) met tests.inventories tests.units tests.traits tests.aggregates tests.tree tests.room in
     elim c.match-root_list.branch [
       | in-Some w ↦
           let i = w.in-Some.list in

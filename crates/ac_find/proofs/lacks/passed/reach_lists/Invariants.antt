@@ -15,6 +15,6 @@ invariant-loop-ix l =
     record {
       count : length l.passed ≡ length all;
       lists : length l.reached.items ≡ length (root_lists_of l.cloud);
-      reached : (k r : ℕ) → k < 5 → r < length all
+      reached : (k r : ℕ) → k < 6 → r < length all
           → (nat_lt k (slice_index l.passed r) || is_listed k (root_lists_of l.cloud) l.reached.items r) ≡ list_any (λ p. passes k all (in_slot slot p)) (filter (λ p. is_available_at all p r) (range_with_len 0 l.ix));
     }

@@ -4,7 +4,7 @@ use Rattle.ac_cloud.specs.Cloud.CloudWorld.{providers_of}
 use Rattle.ac_query.specs.Shown.Queries.{asked_of}
 use Rattle.ac_report.specs.Findings.WhyRows.{slot_rows}
 use Rattle.ac_base.specs.Writing.Rows.{HasRows}
-use Rattle.ac_report.proofs.findings.why_rows.write_slots.Given as goal
+use Rattle.ac_report.proofs.findings.why_rows.slots.write_slots.Given as goal
 
 abbrev pub invariant-loop-s : goal.invariant-loop-s
 invariant-loop-s l =

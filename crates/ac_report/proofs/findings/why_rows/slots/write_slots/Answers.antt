@@ -6,7 +6,7 @@ use Rattle.ac_query.specs.Shown.Queries.{asked_of}
 use Rattle.ac_report.specs.Findings.WhyRows.{slot_rows}
 use Rattle.ac_base.specs.Writing.Rows.{HasRows}
 use Rattle.ac_report.proofs.FoundTexts.RowsWritten.{place_more}
-use Rattle.ac_report.proofs.findings.why_rows.write_slots.Goals as goal
+use Rattle.ac_report.proofs.findings.why_rows.slots.write_slots.Goals as goal
 
 pub loop-s-init : goal.loop-s-init
 loop-s-init c = λ before h. subst (HasRows c.args.rows.now) (sym (append-nil before)) h

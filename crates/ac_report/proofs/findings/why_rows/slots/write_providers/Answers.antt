@@ -8,8 +8,8 @@ use Rattle.ac_report.specs.Findings.WhyRows.{has_a_class, placed_row}
 use Rattle.ac_base.specs.Writing.Rows.{HasRows}
 use Rattle.ac_report.proofs.FoundTexts.HostsWritten.{row_more, row_same}
 use Rattle.ac_report.proofs.FoundTexts.RowsWritten.{behind, hosts_that}
-use Rattle.ac_report.proofs.findings.why_rows.write_slot.Goals as goal
-use Rattle.ac_report.proofs.findings.why_rows.write_slot.Goals.{then-is_looked_at+in_ok-write_placed, else-is_looked_at}
+use Rattle.ac_report.proofs.findings.why_rows.slots.write_providers.Goals as goal
+use Rattle.ac_report.proofs.findings.why_rows.slots.write_providers.Goals.{then-is_looked_at+in_ok-write_placed, else-is_looked_at}
 
 pub loop-ix-init : goal.loop-ix-init
 loop-ix-init c = λ before h. subst (HasRows c.args.rows.now) (sym (append-nil before)) h

@@ -6,7 +6,7 @@ use Rattle.ac_query.specs.Shown.Queries.{asked_of}
 use Rattle.ac_rules.specs.Placed.{placed_at, slot_at}
 use Rattle.ac_report.specs.Findings.WhyRows.{has_a_class, placed_row}
 use Rattle.ac_base.specs.Writing.Rows.{HasRows}
-use Rattle.ac_report.proofs.findings.why_rows.write_slot.Given as goal
+use Rattle.ac_report.proofs.findings.why_rows.slots.write_providers.Given as goal
 
 abbrev pub invariant-loop-ix : goal.invariant-loop-ix
 invariant-loop-ix l =

@@ -4,8 +4,8 @@ use Rattle.std.proofs.lemmas.Iterator.Search.{any_from_yields_List}
 use Rattle.ac_base.proofs.Sorted.SearchFacts.{any_map}
 use Rattle.ac_cloud.specs.Providers.{provider_of}
 use Rattle.ac_query.specs.Shown.Groups.{need_entry}
-use Rattle.ac_report.specs.Findings.WhyRows.{has_inventory}
-use Rattle.ac_report.proofs.findings.why_rows.has_some_inventory.Goals as goal
+use Rattle.ac_find.specs.Explained.{has_inventory}
+use Rattle.ac_report.proofs.findings.why_rows.slots.has_some_inventory.Goals as goal
 
 pub returns : goal.returns
 returns c =

@@ -1,0 +1,81 @@
+-- The text of `hosts --sum`: a header, a row for the roots that fit, and one for each thing that roots lack, with the number of roots.
+use Rattle.std.specs.Prelude.{ℕ, ◌+◌, ◌-◌, ◌*◌, ◌==◌, List, [], ◌∷◌, ◌++◌, map, length, codes, Option, None, Some}
+use Rattle.std.specs.Fmt.{decimal}
+use Rattle.std.specs.List.{filter, flat_map, range_with_len}
+use Rattle.csv.specs.Writing.{default_writer, row_text}
+use Rattle.ac_cloud.specs.World.{Provider}
+use Rattle.ac_query.specs.Asked.{Asked, slots_of}
+use Rattle.ac_find.specs.Lacking.{lack_at}
+use Rattle.ac_find.specs.declared.lacks.Stage.{Stage}
+use Rattle.ac_find.specs.declared.lacks.Stage.TheVariants as stage
+use Rattle.ac_find.specs.declared.lacks.Lack.{Lack}
+use Rattle.ac_find.specs.declared.lacks.Lack.TheVariants as lack
+use Rattle.ac_report.specs.Findings.HostRows.{lack_name, roots_in_order, slot_shown}
+
+-- ---- What roots may lack
+
+-- the tests of a slot, in their order
+abbrev pub stages : List Stage
+stages = stage.Inventory ∷ stage.Units ∷ stage.Traits ∷ stage.Aggregates ∷ stage.Tree ∷ stage.Room ∷ []
+
+abbrev pub lacks_of_slot : ℕ → List Lack
+lacks_of_slot number = map (λ test. lack.Slot number test) stages
+
+-- all that a root may lack of so many slots: first what is of no slot, in the order in which it is tested; then slot by slot
+abbrev pub possible_lacks : ℕ → List Lack
+possible_lacks slots = lack.RootTraits ∷ lack.RequiredTraits ∷ lack.Together ∷ flat_map (λ s. lacks_of_slot (s + 1)) (range_with_len 0 slots)
+
+-- ---- How many lack it
+
+-- a number for each: two roots lack the same where it is the same
+abbrev pub stage_number : Stage → ℕ
+stage_number stage.Inventory = 0
+stage_number stage.Units = 1
+stage_number stage.Traits = 2
+stage_number stage.Aggregates = 3
+stage_number stage.Tree = 4
+stage_number stage.Room = 5
+
+abbrev pub lack_number : Option Lack → ℕ
+lack_number None = 0
+lack_number (Some lack.RootTraits) = 1
+lack_number (Some lack.RequiredTraits) = 2
+lack_number (Some lack.Together) = 3
+lack_number (Some (lack.Slot slot test)) = 6 * slot + stage_number test
+
+-- what each root lacks
+abbrev pub lacks_of_roots : List Provider → Asked → List (Option Lack)
+lacks_of_roots all asked = map (lack_at all asked) (roots_in_order all)
+
+-- how many of these are this
+abbrev pub count_lacks : List (Option Lack) → Option Lack → ℕ
+count_lacks found lacks = length (filter (λ other. lack_number other == lack_number lacks) found)
+
+-- ---- The rows
+
+abbrev pub sum_columns : List (List ℕ)
+sum_columns = codes "hosts" ∷ codes "slot" ∷ codes "lacks" ∷ []
+
+abbrev pub fits_row : ℕ → List (List ℕ)
+fits_row count = decimal count ∷ [] ∷ codes "fits" ∷ []
+
+abbrev pub sum_row : Lack × ℕ → List (List ℕ)
+sum_row sum = decimal sum.1 ∷ slot_shown (Some sum.0) ∷ lack_name (Some sum.0) ∷ []
+
+-- some things, each with the number of roots that lack it
+abbrev pub counted : List (Option Lack) → List Lack → List (Lack × ℕ)
+counted found kinds = map (λ kind. (kind, count_lacks found (Some kind))) kinds
+
+-- those that so many roots lack, in their order
+abbrev pub rows_of_count : List (Lack × ℕ) → ℕ → List (List (List ℕ))
+rows_of_count sums count = map sum_row (filter (λ sum. sum.1 == count) sums)
+
+-- from those that so many roots lack down to those that one lacks
+abbrev pub rows_falling : List (Lack × ℕ) → ℕ → List (List (List ℕ))
+rows_falling sums most = flat_map (λ i. rows_of_count sums (most - i)) (range_with_len 0 most)
+
+abbrev pub sum_rows : List (Option Lack) → List Lack → List (List (List ℕ))
+sum_rows found kinds = (sum_columns ∷ fits_row (count_lacks found None) ∷ []) ++ rows_falling (counted found kinds) (length found)
+
+unfoldable pub sums_text : List Provider → Asked → List ℕ
+sums_text all asked = flat_map (row_text default_writer) (sum_rows (lacks_of_roots all asked) (possible_lacks (length (slots_of asked))))
