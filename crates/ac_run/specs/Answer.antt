@@ -83,17 +83,22 @@ page_lines all asked ids = written (lines all (page all asked ids asked.limit)) 
 abbrev pub page_rows : List Provider → Bool → Says
 page_rows all traits asked ids = written (list_text (shown_providers traits all) asked (page all asked ids asked.limit)) 0
 
--- the tokens of placements, one after another, up to the limit
-abbrev pub placement_lines : List Provider → Says
-placement_lines all asked ids = written (lines all (filled asked.limit all asked)) (fill_status asked.limit (filled asked.limit all asked))
+-- how many placements are wanted: as many as the limit says, which a sum leaves aside
+abbrev pub fill_limit : Bool → Asked → Option ℕ
+fill_limit false asked = asked.limit
+fill_limit true asked = None
 
--- how many these are without a limit, how many there can be at most, and what roots are short of
-abbrev pub placement_sum : List Provider → Says
-placement_sum all asked ids = written (sum_text (counted (filled None all asked)) (most_placed all asked) (shorts all asked)) (fill_status None (filled None all asked))
+-- placements, one after another: their tokens; or how many there are, how many there can be at most, and what roots are short of
+abbrev pub fill_text : Bool → List Provider → Asked → List (List ℕ) → List ℕ
+fill_text false all asked ts = lines all ts
+fill_text true all asked ts = sum_text (counted ts) (most_placed all asked) (shorts all asked)
+
+-- what is said of some placements
+abbrev pub fill_said : Bool → List Provider → Asked → List (List ℕ) → Outcome
+fill_said sum all asked ts = written (fill_text sum all asked ts) (fill_status (fill_limit sum asked) ts)
 
 abbrev pub fills : List Provider → Bool → Says
-fills all false = placement_lines all
-fills all true = placement_sum all
+fills all sum asked ids = fill_said sum all asked (filled (fill_limit sum asked) all asked)
 
 abbrev pub verdict_line : List Provider → Bool → Says
 verdict_line all detail asked ids = verdict_on all detail asked (option_and_then (places_of all) ids)

@@ -17,8 +17,6 @@ use Rattle.ac_run.specs.Feeds.{Bytes, TellBytes, FeedRose, too_large}
 use Rattle.ac_run.specs.Lines.{memory_line, output_line, tries_line, unreadable_line}
 use Rattle.ac_base.specs.Writing.{TakesLine}
 use Rattle.ac_tables.specs.declared.read.FiveTables.{FiveTables}
-use Rattle.ac_run.specs.declared.refusal.AskRefusal.TheVariants as ask
-use Rattle.ac_run.specs.declared.refusal.Refusal.TheVariants as why
 use Rattle.ac_run.specs.declared.refusal.TablesRefusal.{TablesRefusal}
 use Rattle.ac_run.specs.declared.refusal.TablesRefusal.TheVariants as tables
 
