@@ -1,8 +1,8 @@
 -- Where a candidate stands, nothing is lacking; and there is one exactly where some root fits.
 use Rattle.std.proofs.Common.{inl, inr, ◌≡◌, ◌∙◌, ℕ, ◌+◌, Bool, true, false, not, ◌&&◌, List, [], ◌∷◌, length, Option, None, Some, refl, sym, ap, arith}
-use Rattle.std.specs.List.{filter, list_all, list_any, range_with_len, AllByRecursion as Each}
+use Rattle.std.specs.List.{list_all, list_any, range_with_len, AllByRecursion as Each}
 use Rattle.std.specs.Option.{is_none}
-use Rattle.std.proofs.lemmas.Bool.{and_parts, and_from, cases_Bool, false≢true}
+use Rattle.std.proofs.lemmas.Bool.{and_parts, and_from, cases_Bool}
 use Rattle.ac_query.specs.Asked.{Asked, Slot, slots_of}
 use Rattle.ac_cloud.specs.World.{Provider}
 use Rattle.ac_prune.specs.Ahead.{hosts_of, IsHosted}
@@ -25,7 +25,7 @@ use Rattle.ac_prune.proofs.Paths.BearLemmas.{each_serves}
 use Rattle.ac_prune.proofs.Roots.HostLemmas.{behind_hosts, candidate_open, candidate_parts}
 use Rattle.ac_prune.proofs.Roots.TreeLemmas.{or_left}
 use Rattle.ac_find.proofs.ExplainedLemmas.{units_have}
-use Rattle.ac_find.proofs.NoneLemmas.{each_served, required_held}
+use Rattle.ac_find.proofs.NoneLemmas.{any_gives, each_served, required_held}
 
 -- ---- What is lacking where a candidate stands
 
@@ -64,23 +64,20 @@ hosted all asked r t list candidate takes stands = record {
   hosts = hosts_list all (slots_of asked) t r (omega (arith, list.long)) ∙ stands;
 }
 
--- what follows from each that passes two tests, where some does
-any_gives : {X : Type 0} (f g : X → Bool) (xs : List X) (b : Bool) → Each (λ x. g x ≡ true → f x ≡ true → b ≡ true) xs → list_any f (filter g xs) ≡ true → b ≡ true
-any_gives f g [] b each h = absurd (false≢true h)
-any_gives f g (x ∷ xs) b each h = grind (arith, any_gives f g xs b each.1, each.0)
-
 -- where a root fits, it has what is asked of each slot and of the group without a suffix
 fitting_has : (all : List Provider) (asked : Asked) (r : ℕ) → fits_at all asked r ≡ true → (is_none (first_unserved all r 1 (slots_of asked)) && holds_required all asked r) ≡ true
 unfolding candidates
 fitting_has all asked r fits =
     let both = and_parts (takes_root all asked r) (list_any (λ t. stand_at all t r) (candidates all asked)) fits in
-    any_gives (λ t. stand_at all t r) (λ t. is_candidate all asked t) (all_lists (length all) (length (slots_of asked))) _
-    (each_weaker (IsListBelow (length all) (length (slots_of asked))) _ (all_lists (length all) (length (slots_of asked)))
-    (λ t list candidate stands.
+    any_gives (λ t. stand_at all t r) (candidates all asked) _
+    (each_weaker (λ t. (is_candidate all asked t ≡ true) × IsListBelow (length all) (length (slots_of asked)) t) _ (candidates all asked)
+    (λ t chosen stands.
+    let candidate = chosen.0 in
+    let list = chosen.1 in
     let here = hosted all asked r t list candidate both.0 stands in
     let served = each_served all asked r (slots_of asked) t list.long (behind_hosts all asked [] t r here) (each_serves all asked [] t (candidate_open all asked t candidate)) in
     and_from _ _ (ap is_none (all_served all r 1 (slots_of asked) served)) (required_held all asked r t here))
-    (each_all_lists (length all) (length (slots_of asked))))
+    (each_filter (IsListBelow (length all) (length (slots_of asked))) (λ t. is_candidate all asked t) (all_lists (length all) (length (slots_of asked))) (each_all_lists (length all) (length (slots_of asked)))))
     both.1
 
 pub lack_nothing : LackNothing

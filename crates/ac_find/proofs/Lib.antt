@@ -6,3 +6,4 @@ pub mod LackLaws
 pub mod RequiredLemmas
 pub mod NoneLemmas
 pub mod MarkLemmas
+pub mod CountLaws

@@ -1,23 +1,24 @@
--- Where no root has what each slot asks, or what the group without a suffix requires, there is no candidate.
-use Rattle.std.proofs.Common.{inl, inr, ◌⊎◌, ◌≡◌, ◌∙◌, ◌<◌, ◌≤◌, ℕ, ◌+◌, Bool, true, false, ◌&&◌, ◌||◌, List, [], ◌∷◌, length, Option, refl, ap, arith}
+-- Where no provider has what a slot asks, no root what each slot asks, or what the group without a suffix requires, there is no candidate.
+use Rattle.std.proofs.Common.{inl, inr, ◌⊎◌, ◌≡◌, ◌∙◌, ◌<◌, ◌≤◌, ℕ, ◌+◌, Bool, true, false, ◌&&◌, ◌||◌, List, [], ◌∷◌, length, Option, refl, sym, ap, arith}
 use Rattle.std.specs.List.{filter, list_all, list_any, range_with_len, AllByRecursion as Each}
 use Rattle.std.specs.Option.{is_none, is_some}
-use Rattle.std.proofs.lemmas.Bool.{and_parts, and_from, false≢true, false_from_ne_true}
+use Rattle.std.proofs.lemmas.Bool.{and_parts, and_from, false≢true, false_from_ne_true, or_cases, true_from_ne_false}
+use Rattle.std.proofs.lemmas.List.Folds.{list_all_at}
 use Rattle.ac_query.specs.Asked.{Asked, Group, Slot, slots_of}
-use Rattle.ac_cloud.specs.World.{Provider, provider_at, has_trait}
+use Rattle.ac_cloud.specs.World.{Provider, provider_at, has_trait, is_available_at}
 use Rattle.ac_prune.specs.Ahead.{hosts_of, serves, IsHosted}
 use Rattle.ac_prune.specs.QuerySearch.{has_room_alone}
 use Rattle.ac_rules.specs.Judge.{is_candidate, tests}
 use Rattle.ac_rules.specs.Lists.{IsListBelow, all_lists}
 use Rattle.ac_rules.specs.Own.{has_any, fits}
 use Rattle.ac_rules.specs.Pages.{candidates}
-use Rattle.ac_rules.specs.Placed.{Placed, placed, assigned}
+use Rattle.ac_rules.specs.Placed.{Placed, placed, assigned, no_slot, slot_at}
 use Rattle.ac_rules.specs.Together.{amount_of, are_brought, collective, is_brought, is_one_brought, sum_on, takes_root, hosts_all, anchor}
-use Rattle.ac_find.specs.Explained.{are_held, has_each_slot, holds_required, in_slot, is_held, is_one_held, is_served, meets_room, meets_tree, serves_unsuffixed, tree_counts}
-use Rattle.ac_find.specs.Laws.{NoneWithoutRoots, NoneWithoutTraits}
-use Rattle.ac_rules.proofs.EachSlot.AnchorLemmas.{each_range}
+use Rattle.ac_find.specs.Explained.{are_held, count_of, has_each_slot, holds_required, in_slot, is_held, is_one_held, is_served, meets_room, meets_tree, serves_unsuffixed, slot_counts}
+use Rattle.ac_find.specs.Laws.{NoneWithoutRoots, NoneWithoutTraits, RootTraitsZero, SlotZero}
+use Rattle.ac_rules.proofs.EachSlot.AnchorLemmas.{any_filter, each_range}
 use Rattle.ac_rules.proofs.EachSlot.FrontLemmas.{all_weaker, any_weaker}
-use Rattle.ac_rules.proofs.Elements.{Among, each_weaker, filter_none}
+use Rattle.ac_rules.proofs.Elements.{Among, each_all, each_weaker, filter_none}
 use Rattle.ac_rules.proofs.Lists.ListLemmas.{each_all_lists}
 use Rattle.ac_prune.proofs.Paths.BearLemmas.{each_serves}
 use Rattle.ac_prune.proofs.Roots.HostLemmas.{behind_hosts, candidate_open, candidate_parts}
@@ -123,6 +124,23 @@ any_kept : {X : Type 0} (f : X → Bool) (xs : List X) → list_any f xs ≡ tru
 any_kept f [] h = absurd (false≢true h)
 any_kept f (x ∷ xs) h = grind (arith, any_kept f xs)
 
+-- what follows from each that passes a test, where some does
+pub any_gives : {X : Type 0} (f : X → Bool) (xs : List X) (G : Type 0) → Each (λ x. f x ≡ true → G) xs → list_any f xs ≡ true → G
+any_gives f [] G each h = absurd (false≢true h)
+any_gives f (x ∷ xs) G each h = elim (or_cases (f x) (list_any f xs) h) [
+  | inl here ↦ each.0 here
+  | inr more ↦ any_gives f xs G each.1 more
+]
+
+-- a slot that has its provider at a root has one
+served_some : (all : List Provider) (r : ℕ) (slot : Slot) → is_served all r slot ≡ true → 0 < (slot_counts all slot).room
+unfolding hosts_of
+served_some all r slot h =
+    let meets = λ (p : ℕ). meets_room all (in_slot slot p) in
+    let here = λ (p : ℕ). is_available_at all p r in
+    any_kept meets (range_with_len 0 (length all))
+    (any_weaker (λ p. here p && meets p) meets (λ p both. (and_parts _ _ both).1) (range_with_len 0 (length all)) (sym (any_filter meets here (range_with_len 0 (length all))) ∙ h))
+
 -- ---- The laws
 
 -- no list is a candidate where each candidate shows what isn't so
@@ -135,11 +153,27 @@ none_by all asked count some none =
     (λ t list. false_from_ne_true _ (λ candidate. absurd (omega (arith, some t list candidate, none))))
     (each_all_lists (length all) (length (slots_of asked))))
 
+-- nor where no root shows what one does at which a candidate stands
+none_at_roots : (all : List Provider) (asked : Asked) (shows : ℕ → Bool) → ((r : ℕ) → has_each_slot all asked r && holds_required all asked r ≡ true → shows r ≡ true)
+    → count_of all shows ≡ 0 → candidates all asked ≡ []
+none_at_roots all asked shows weaker = none_by all asked (count_of all shows) (λ t list candidate.
+    any_kept shows (range_with_len 0 (length all))
+    (any_weaker (λ r. has_each_slot all asked r && holds_required all asked r) shows weaker (range_with_len 0 (length all)) (root_there all asked t list candidate)))
+
 pub none_without_traits : NoneWithoutTraits
-none_without_traits all asked = none_by all asked (tree_counts all asked).required_traits (λ t list candidate. any_kept _ (range_with_len 0 (length all)) (root_there all asked t list candidate))
+none_without_traits all asked = none_at_roots all asked (λ r. has_each_slot all asked r && holds_required all asked r) (λ r h. h)
 
 pub none_without_roots : NoneWithoutRoots
-none_without_roots all asked = none_by all asked (tree_counts all asked).each_slot (λ t list candidate.
-    any_kept (has_each_slot all asked) (range_with_len 0 (length all))
-    (any_weaker (λ r. has_each_slot all asked r && holds_required all asked r) (has_each_slot all asked) (λ r both. (and_parts _ _ both).0) (range_with_len 0 (length all))
-    (root_there all asked t list candidate)))
+none_without_roots all asked = none_at_roots all asked (has_each_slot all asked) (λ r h. (and_parts _ _ h).0)
+
+pub root_traits_zero : RootTraitsZero
+root_traits_zero all asked = none_at_roots all asked (takes_root all asked) (λ r h. (and_parts _ _ (and_parts _ _ h).0).0)
+
+pub slot_zero : SlotZero
+slot_zero all asked s low = none_by all asked (slot_counts all (slot_at asked s)).room (λ t list candidate.
+    any_gives (λ r. has_each_slot all asked r && holds_required all asked r) (range_with_len 0 (length all)) (0 < (slot_counts all (slot_at asked s)).room)
+    (each_all _ (range_with_len 0 (length all)) (λ r h.
+    let each = (and_parts _ _ (and_parts _ _ h).0).1 in
+    served_some all r (slot_at asked s)
+    (true_from_ne_false _ (λ away. absurd (false≢true (sym (list_all_at (λ slot. is_served all r slot) (slots_of asked) s no_slot low away) ∙ each))))))
+    (root_there all asked t list candidate))

@@ -1,14 +1,49 @@
 -- What the laws say of the counts of an explanation, and of the roots that fit.
-use Rattle.std.specs.Prelude.{◌≡◌, ℕ, not, List, [], length}
-use Rattle.std.specs.List.{list_any, range_with_len}
+use Rattle.std.specs.Prelude.{◌≡◌, ◌<◌, ◌≤◌, ℕ, not, List, [], length}
+use Rattle.std.specs.List.{AllByRecursion, list_any, range_with_len}
 use Rattle.std.specs.Option.{is_none}
-use Rattle.ac_query.specs.Asked.{Asked}
+use Rattle.ac_query.specs.Asked.{Asked, Slot, slots_of}
 use Rattle.ac_cloud.specs.World.{Provider}
 use Rattle.ac_rules.specs.Pages.{candidates}
+use Rattle.ac_rules.specs.Placed.{slot_at}
 use Rattle.ac_rules.specs.Together.{is_empty}
-use Rattle.ac_find.specs.Explained.{tree_counts}
+use Rattle.ac_find.specs.Explained.{SlotCounts, TreeCounts, class_rooms, slot_counts, tree_counts}
 use Rattle.ac_prune.specs.Fitting.{fits_at}
 use Rattle.ac_find.specs.Lacking.{lack_at}
+
+-- no number of a slot is greater than the one before it
+pub record Falls (counts : SlotCounts) (providers : ℕ) : Type 0 where
+  pub units : counts.units ≤ providers
+  pub traits : counts.traits ≤ counts.units
+  pub aggregates : counts.aggregates ≤ counts.traits
+  pub tree : counts.tree ≤ counts.aggregates
+  pub room : counts.room ≤ counts.tree
+
+-- what has room for all classes has room for each, and meets all that stands before room
+abbrev pub AreBetween : SlotCounts → List ℕ → Type 0
+AreBetween counts rooms = AllByRecursion (λ n. (counts.room ≤ n) × (n ≤ counts.tree)) rooms
+
+-- the numbers of a slot's line fall, and those of its classes stand between the last two
+abbrev pub CountsFall : Type 0
+CountsFall = (all : List Provider) (slot : Slot) → Falls (slot_counts all slot) (length all) × AreBetween (slot_counts all slot) (class_rooms all slot)
+
+-- no number of the trees is greater than the one before it
+pub record FallsAtRoots (counts : TreeCounts) (providers : ℕ) : Type 0 where
+  pub roots : counts.roots ≤ providers
+  pub root_traits : counts.root_traits ≤ counts.roots
+  pub each_slot : counts.each_slot ≤ counts.root_traits
+  pub required_traits : counts.required_traits ≤ counts.each_slot
+
+abbrev pub RootsFall : Type 0
+RootsFall = (all : List Provider) (asked : Asked) → FallsAtRoots (tree_counts all asked) (length all)
+
+-- where no provider has what a slot asks, room included, there is no candidate; no number of its line is less than this one
+abbrev pub SlotZero : Type 0
+SlotZero = (all : List Provider) (asked : Asked) (s : ℕ) → s < length (slots_of asked) → (slot_counts all (slot_at asked s)).room ≡ 0 → candidates all asked ≡ []
+
+-- where the query takes no root, there is none either
+abbrev pub RootTraitsZero : Type 0
+RootTraitsZero = (all : List Provider) (asked : Asked) → (tree_counts all asked).root_traits ≡ 0 → candidates all asked ≡ []
 
 -- where no root has a provider for each slot, there is no candidate
 abbrev pub NoneWithoutRoots : Type 0

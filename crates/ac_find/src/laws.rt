@@ -1,6 +1,28 @@
 //! What holds of the counts of an explanation, and of the roots that fit: a function's contract is a law, and no program calls it.
 
-ghost use Rattle.ac_find.specs.Laws.{LackNothing, NoneWithoutRoots, NoneWithoutTraits, SomeFits};
+ghost use Rattle.ac_find.specs.Laws.{CountsFall, LackNothing, NoneWithoutRoots, NoneWithoutTraits, RootTraitsZero, RootsFall, SlotZero, SomeFits};
+
+/// In a slot's line no number is greater than the one before it.
+pub fn counts_fall()
+    ensures { CountsFall }
+{}
+
+/// Nor is one in the line of trees.
+pub fn roots_fall()
+    ensures { RootsFall }
+{}
+
+/// Where no provider has what a slot asks, room included, there is no candidate.
+#[tactic(auto, using(crate::proofs::NoneLemmas::slot_zero))]
+pub fn slot_zero()
+    ensures { SlotZero }
+{}
+
+/// Where the query takes no root, there is no candidate.
+#[tactic(auto, using(crate::proofs::NoneLemmas::root_traits_zero))]
+pub fn root_traits_zero()
+    ensures { RootTraitsZero }
+{}
 
 /// Where no root has a provider for each slot, there is no candidate.
 pub fn none_without_roots()

@@ -1,0 +1,5 @@
+use Rattle.ac_find.proofs.CountLaws.{counts_fall}
+use Rattle.ac_find.proofs.laws.counts_fall.Goals as goal
+
+pub returns : goal.returns
+returns c = counts_fall
