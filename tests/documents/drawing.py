@@ -35,6 +35,7 @@ LETTER = 0.602
 PAGE = 2000
 LACKS = 'root traits', 'no inventory', 'units', 'traits', 'aggregates', 'tree', 'room', 'required traits', 'together'
 OF_SLOTS = LACKS[1:7]
+SAID = {'no inventory': 'an inventory'}
 ODD = '<b>&amp; \\N\n"x"\x1b é</title><script>alert(1)</script>'
 SHOWN = '<b>&amp; \\N "x" é</title><script>alert(1)</script>'
 
@@ -262,7 +263,7 @@ def rows_of_hosts(names, chance):
 def told(host):
     """What a square says where the pointer is."""
     root, name, _, slot, kind = host
-    return f'{name.replace(ODD, SHOWN)} {root}: ' + (f'lacks {kind}' + (f' for slot {slot}' if slot else '') if kind else 'fits')
+    return f'{name.replace(ODD, SHOWN)} {root}: ' + (f'lacks {SAID.get(kind, kind)}' + (f' for slot {slot}' if slot else '') if kind else 'fits')
 
 
 def legend_of(hosts):
@@ -272,7 +273,7 @@ def legend_of(hosts):
     for kind in LACKS:
         slots = Counter(int(slot) for *_, slot, other in hosts if slot and other == kind)
         if kinds[kind]:
-            yield f'lack {kind}: {kinds[kind]}' + (f' ({", ".join(f"slot {slot}: {slots[slot]}" for slot in sorted(slots))})' if slots else '')
+            yield f'lack {SAID.get(kind, kind)}: {kinds[kind]}' + (f' ({", ".join(f"slot {slot}: {slots[slot]}" for slot in sorted(slots))})' if slots else '')
 
 
 def colours_differ(picture, hosts, texts):
@@ -280,7 +281,7 @@ def colours_differ(picture, hosts, texts):
     if [words for _, words in legend] != list(legend_of(hosts)) or len({colour for colour, _ in legend}) != len(legend):
         yield f'the legend is {legend}, and not {list(legend_of(hosts))}'
     colours = {words.partition(':')[0].removeprefix('lack ').replace('fit', ''): colour for colour, words in legend}
-    if Counter(one.get('fill') for one in picture.classed('host')) - Counter(colours.get(kind) for *_, kind in hosts):
+    if Counter(one.get('fill') for one in picture.classed('host')) - Counter(colours.get(SAID.get(kind, kind)) for *_, kind in hosts):
         yield 'other colours'
 
 

@@ -13,6 +13,8 @@ FITS = 'fits'
 # What a root may lack, in the order of an explanation. People who see no red or no green can tell these colours apart too.
 COLOURS = {FITS: '#0072b2', 'root traits': '#000000', 'no inventory': '#bdbdbd', 'units': '#56b4e9', 'traits': '#882255', 'aggregates': '#cc79a7',
            'tree': '#7a5c3e', 'room': '#e69f00', 'required traits': '#b34700', 'together': '#fff14d'}
+# What a root lacks, where the word of the column says it otherwise.
+SAID = {'no inventory': 'an inventory'}
 OTHER = '#ffffff'
 NARROW = 640  # the least width of the picture
 EDGE = 16  # the room around the picture, and between blocks
@@ -37,7 +39,7 @@ class Host:
         return COLOURS.get(self.kind(), OTHER)
 
     def told(self):
-        what = 'fits' if self.fits else f'lacks {self.lacks}' + (f' for slot {self.slot}' if self.slot else '')
+        what = 'fits' if self.fits else f'lacks {SAID.get(self.lacks, self.lacks)}' + (f' for slot {self.slot}' if self.slot else '')
         return f'{self.name} {self.root}: {what}' if self.name else f'{self.root}: {what}'
 
 
@@ -71,7 +73,7 @@ def legend(hosts):
     for kind in sorted(set(counts) - {FITS}, key=lambda kind: (known.index(kind) if kind in known else len(known), kind)):
         slots = Counter(host.slot for host in hosts if host.kind() == kind and host.slot)
         where = ', '.join(f'slot {slot}: {count}' for slot, count in sorted(slots.items(), key=lambda one: natural(one[0])))
-        yield COLOURS.get(kind, OTHER), f'lack {kind}: {counts[kind]}' + (f' ({where})' if where else '')
+        yield COLOURS.get(kind, OTHER), f'lack {SAID.get(kind, kind)}: {counts[kind]}' + (f' ({where})' if where else '')
 
 
 def picture(hosts, blocks, query=''):
