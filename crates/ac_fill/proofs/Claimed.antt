@@ -1,8 +1,9 @@
 -- What a claim leaves of what providers have, and how often they have what is wanted.
-use Rattle.std.proofs.Common.{◌≡◌, ◌∙◌, ◌<◌, ◌≤◌, ◌+◌, ◌-◌, ◌/◌, ◌&&◌, ℕ, suc, Bool, true, not, List, [], ◌∷◌, length, Option, refl, sym, ap, ap₂, subst, arith, inl, inr, option_map, unwrap_or, bytes_eq, is_none, is_some}
+use Rattle.std.proofs.Common.{◌≡◌, ◌∙◌, ◌<◌, ◌≤◌, ◌+◌, ◌-◌, ◌/◌, ◌&&◌, ℕ, suc, Bool, true, not, List, [], ◌∷◌, length, Option, None, Some, refl, sym, ap, ap₂, subst, arith, inl, inr, option_map, unwrap_or, bytes_eq, is_none, is_some}
 use Rattle.std.specs.List.{list_all, list_any, sum_by, filter, range_with_len}
 use Rattle.std.proofs.Math.Path.{fun_ext}
-use Rattle.std.proofs.lemmas.Bool.{and_parts, cases_Bool, eq-eqb}
+use Rattle.std.proofs.lemmas.Bool.{and_parts, cases_Bool, eq-eqb, false≢true}
+use Rattle.std.proofs.lemmas.Bool.Decides.{nat_tests}
 use Rattle.std.proofs.lemmas.List.Elements.{All-head, All-tail}
 use Rattle.std.proofs.lemmas.List.Sums.{sum_by-cons, sum_by-le-sum_by}
 use Rattle.std.proofs.lemmas.Nat.{le-div}
@@ -10,17 +11,21 @@ use Rattle.std.proofs.lemmas.Slice.Eq.{bytes_eq-Decides}
 use Rattle.std.proofs.Math.Nat.{div-mul-le_self, suc-mul}
 use Rattle.ac_cloud.specs.World.{Provider, UsedInventory, entry_in, id_at, is_root, left_of, provider_at}
 use Rattle.ac_cloud.specs.Laws.{DifferInAmounts}
-use Rattle.ac_cloud.proofs.Amounts.{entries}
+use Rattle.ac_cloud.proofs.Amounts.{amounts_again, amounts_same, entries}
 use Rattle.ac_prune.specs.Ahead.{hosts_of}
 use Rattle.ac_query.specs.Asked.{Asked, Slot}
 use Rattle.ac_rules.specs.Claims.{claimed}
 use Rattle.ac_rules.specs.Lists.{IsListBelow}
 use Rattle.ac_rules.specs.Own.{units_fit, traits_fit, aggregates_fit, tree_fits, fits}
-use Rattle.ac_rules.specs.Placed.{Placed, placed}
-use Rattle.ac_rules.specs.Together.{amount_of, has_room, sum_on, takes_root}
+use Rattle.ac_rules.specs.Placed.{Placed, assigned, placed}
+use Rattle.ac_rules.specs.Together.{amount_of, has_room, sum_on, sums, takes_root}
+use Rattle.ac_rules.specs.Judge.{is_candidate}
 use Rattle.ac_rules.proofs.Elements.{Among}
 use Rattle.ac_rules.proofs.EachSlot.ClaimLaws as kept
+use Rattle.ac_rules.proofs.EachSlot.FrontLemmas.{candidate_opens}
+use Rattle.ac_rules.proofs.EachSlot.FullLemmas.{full_from}
 use Rattle.ac_fill.specs.Bounds.{Want, units_of, times_at, times}
+use Rattle.ac_fill.specs.Laws.{ClaimsCommute, IsWithin, NeverOverbooks}
 use Rattle.std.proofs.lemmas.Grind.{common_steps}
 
 abbrev pub Need : Type 0
@@ -161,3 +166,24 @@ room_left o sum h = grind (arith, common_steps)
 pub fits_all : (all : List Provider) (x : Placed) → units_fit all x ≡ true → traits_fit all x ≡ true → aggregates_fit all x ≡ true → tree_fits all x ≡ true → fits all x ≡ true
 unfolding fits
 fits_all all x units traits aggregates tree = rw (units, traits, aggregates, tree) refl
+
+-- ---- the laws of claims
+
+-- a sum that there is room for leaves what is used within the capacity
+within_after : (o : Option UsedInventory) (sum : ℕ) → has_room (option_map (λ h. h.inventory) o) (unwrap_or (option_map (λ h. h.used) o) 0) sum ≡ true
+    → IsWithin (option_map (λ (h : UsedInventory). record { inventory = h.inventory; used = h.used + sum }) o)
+within_after None sum h = absurd (false≢true h)
+within_after (Some had) sum h = grind (arith, nat_tests)
+
+pub never_overbooks : NeverOverbooks
+unfolding is_candidate sums claimed
+never_overbooks all asked t candidate ix class some =
+    let xs = assigned asked t in
+    subst IsWithin (sym (entries (λ ix class had. had.used + sum_on xs ix class) all ix class))
+    (within_after (entry_in (provider_at all ix) class) (sum_on xs ix class) (full_from all xs xs (candidate_opens all asked xs candidate).sums ix class some))
+
+pub claims_commute : ClaimsCommute
+unfolding claimed
+claims_commute all xs ys =
+    let one : List Placed → ℕ → List ℕ → UsedInventory → ℕ = λ zs ix class had. had.used + sum_on zs ix class in
+    amounts_again (one xs) (one ys) all ∙ amounts_same _ _ all (λ ix class had. omega arith) ∙ sym (amounts_again (one ys) (one xs) all)

@@ -1,7 +1,8 @@
--- Placements are first fits, never fall, and leave no candidate.
-use Rattle.std.proofs.Common.{◌≡◌, ◌∙◌, ◌≤◌, ℕ, zero, suc, true, false, List, [], ◌∷◌, map, length, None, Some, refl, ap, subst, arith}
+-- Placements are first fits, never fall, and leave no candidate; a limit takes the first of them.
+use Rattle.std.proofs.Common.{◌≡◌, ◌∙◌, ◌≤◌, ℕ, zero, suc, true, false, List, [], ◌∷◌, map, length, take, None, Some, refl, sym, ap, subst, arith}
 use Rattle.std.specs.List.{AllByRecursion as Each}
 use Rattle.std.proofs.Math.Path.{fun_ext}
+use Rattle.std.proofs.Math.Seq.{take-nil}
 use Rattle.ac_cloud.specs.World.{Provider, id_at}
 use Rattle.ac_query.specs.Asked.{Asked, slots_of}
 use Rattle.ac_rules.specs.Claims.{claimed}
@@ -14,7 +15,7 @@ use Rattle.ac_rules.proofs.EachSlot.ClaimLaws.{claims_alone, claims_narrow}
 use Rattle.ac_rules.proofs.Lists.PageLemmas.{rest_begins}
 use Rattle.ac_rules.proofs.Lists.RestLemmas.{IsChosen}
 use Rattle.ac_fill.specs.Filled.{asks_units, units_left, placements, filled, after}
-use Rattle.ac_fill.specs.Laws.{AreFirstFits, FillsFirstFits, NeverFalls, FillsInOrder, FillsUp}
+use Rattle.ac_fill.specs.Laws.{AreFirstFits, FillsFirstFits, NeverFalls, FillsInOrder, FillsUp, LimitTakesFirst}
 use Rattle.ac_fill.proofs.Placing.{first_chosen, first_takes, placed_first, placed_none, placed_over}
 
 -- ---- first fits
@@ -96,3 +97,20 @@ none_left asked asks (suc n) all (t ∷ ts) e h =
 pub fills_up : FillsUp
 unfolding filled
 fills_up all asked asks = none_left asked asks (units_left all) all (candidates all asked) refl (omega arith)
+
+-- fewer placements are the first of as many as there are units left
+first_placements : (asked : Asked) → asks_units asked ≡ true → (n m : ℕ) (all : List Provider) (ls : List (List ℕ)) → candidates all asked ≡ ls → units_left all ≤ m
+    → placements n all asked ≡ take n (placements m all asked)
+first_placements asked asks n m all [] e h = placed_none n all asked e ∙ sym (ap (take n) (placed_none m all asked e) ∙ take-nil n)
+first_placements asked asks zero m all (t ∷ ts) e h = placed_over all asked
+first_placements asked asks (suc n) zero all (t ∷ ts) e h = let less = first_takes asked asks all t ts e in absurd (omega (arith, less, h))
+first_placements asked asks (suc n) (suc m) all (t ∷ ts) e h =
+    let less = first_takes asked asks all t ts e in
+    let now = claimed all (assigned asked t) in
+    placed_first n all asked t ts e
+    ∙ ap (λ l. t ∷ l) (first_placements asked asks n m now (candidates now asked) refl (omega (arith, less, h)))
+    ∙ sym (ap (take (suc n)) (placed_first m all asked t ts e))
+
+pub limit_takes_first : LimitTakesFirst
+unfolding filled
+limit_takes_first n all asked asks = first_placements asked asks n (units_left all) all (candidates all asked) refl (omega arith)

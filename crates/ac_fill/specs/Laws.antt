@@ -1,7 +1,8 @@
 -- What holds of placements.
-use Rattle.std.specs.Prelude.{◌≡◌, ◌≤◌, ℕ, true, false, List, [], ◌∷◌, length, map, ⊤, Option, Some, None}
+use Rattle.std.specs.Prelude.{◌≡◌, ◌<◌, ◌≤◌, ℕ, true, false, List, [], ◌∷◌, length, map, take, ⊤, Option, Some, None}
 use Rattle.std.specs.List.{AllByRecursion}
-use Rattle.ac_cloud.specs.World.{Provider}
+use Rattle.ac_base.specs.Quantities.{capacity}
+use Rattle.ac_cloud.specs.World.{Provider, UsedInventory, entry_in, provider_at}
 use Rattle.ac_query.specs.declared.version.Version.{Version}
 use Rattle.ac_query.specs.Asked.{Asked, slots_of}
 use Rattle.ac_query.specs.Faults.{query_fault}
@@ -12,7 +13,8 @@ use Rattle.ac_rules.specs.Judge.{is_candidate}
 use Rattle.ac_rules.specs.Laws.{AreInOrder}
 use Rattle.ac_rules.specs.Lists.{IsListBelow, lex_lt, head_of}
 use Rattle.ac_rules.specs.Pages.{candidates, ids_of}
-use Rattle.ac_rules.specs.Placed.{assigned}
+use Rattle.ac_rules.specs.Placed.{Placed, assigned}
+use Rattle.ac_rules.specs.Together.{sum_on}
 use Rattle.ac_fill.specs.Bounds.{most_placed}
 use Rattle.ac_fill.specs.Filled.{asks_units, filled, after}
 
@@ -36,6 +38,24 @@ FillsInOrder = (limit : Option ℕ) (all : List Provider) (asked : Asked) → Ar
 -- after the placements without a limit there is no candidate
 abbrev pub FillsUp : Type 0
 FillsUp = (all : List Provider) (asked : Asked) → asks_units asked ≡ true → candidates (after all asked (filled None all asked)) asked ≡ []
+
+-- the placements up to a limit are the first of those without one
+abbrev pub LimitTakesFirst : Type 0
+LimitTakesFirst = (n : ℕ) (all : List Provider) (asked : Asked) → asks_units asked ≡ true → filled (Some n) all asked ≡ take n (filled None all asked)
+
+-- there is an inventory, and no more of it is used than its capacity
+abbrev pub IsWithin : Option UsedInventory → Type 0
+IsWithin None = ⊥
+IsWithin (Some had) = had.used ≤ capacity had.inventory
+
+-- after the claim of a candidate that is so wherever it takes anything
+abbrev pub NeverOverbooks : Type 0
+NeverOverbooks = (all : List Provider) (asked : Asked) (t : List ℕ) → is_candidate all asked t ≡ true → (ix : ℕ) (class : List ℕ)
+    → 0 < sum_on (assigned asked t) ix class → IsWithin (entry_in (provider_at (claimed all (assigned asked t)) ix) class)
+
+-- two claims leave the same world in either order
+abbrev pub ClaimsCommute : Type 0
+ClaimsCommute = (all : List Provider) (xs ys : List Placed) → claimed (claimed all xs) ys ≡ claimed (claimed all ys) xs
 
 -- each query that is accepted asks for an amount of a class
 abbrev pub AcceptedAsk : Type 0

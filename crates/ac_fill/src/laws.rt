@@ -1,6 +1,6 @@
 //! What holds of placements: each function's contract is a law, and no program calls it.
 
-ghost use Rattle.ac_fill.specs.Laws.{AcceptedAsk, FillsFirstFits, FillsInOrder, FillsUp, FillsWithin, NoneIsLonger};
+ghost use Rattle.ac_fill.specs.Laws.{AcceptedAsk, ClaimsCommute, FillsFirstFits, FillsInOrder, FillsUp, FillsWithin, LimitTakesFirst, NeverOverbooks, NoneIsLonger};
 
 /// Each placement is the first candidate in the world that the ones before it left.
 #[tactic(auto, using(crate::proofs::Ordered::fills_first_fits))]
@@ -18,6 +18,24 @@ pub fn fills_in_order()
 #[tactic(auto, using(crate::proofs::Ordered::fills_up))]
 pub fn fills_up()
     ensures { FillsUp }
+{}
+
+/// The placements up to a limit are the first of those without one.
+#[tactic(auto, using(crate::proofs::Ordered::limit_takes_first))]
+pub fn limit_takes_first()
+    ensures { LimitTakesFirst }
+{}
+
+/// Wherever a candidate takes anything, no more is used after its claim than the capacity.
+#[tactic(auto, using(crate::proofs::Claimed::never_overbooks))]
+pub fn never_overbooks()
+    ensures { NeverOverbooks }
+{}
+
+/// Two claims leave the same world in either order.
+#[tactic(auto, using(crate::proofs::Claimed::claims_commute))]
+pub fn claims_commute()
+    ensures { ClaimsCommute }
 {}
 
 /// Each query that is accepted asks for an amount of a class, so placements take room, and end.

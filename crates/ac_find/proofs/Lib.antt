@@ -7,3 +7,4 @@ pub mod RequiredLemmas
 pub mod NoneLemmas
 pub mod MarkLemmas
 pub mod CountLaws
+pub mod NobodyLaws

@@ -18,11 +18,11 @@ use Rattle.ac_find.specs.Explained.{are_held, count_of, has_each_slot, holds_req
 use Rattle.ac_find.specs.Laws.{NoneWithoutRoots, NoneWithoutTraits, RootTraitsZero, SlotZero}
 use Rattle.ac_rules.proofs.EachSlot.AnchorLemmas.{any_filter, each_range}
 use Rattle.ac_rules.proofs.EachSlot.FrontLemmas.{all_weaker, any_weaker}
-use Rattle.ac_rules.proofs.Elements.{Among, each_all, each_weaker, filter_none}
+use Rattle.ac_rules.proofs.Elements.{Among, each_weaker, filter_none}
 use Rattle.ac_rules.proofs.Lists.ListLemmas.{each_all_lists}
 use Rattle.ac_prune.proofs.Paths.BearLemmas.{each_serves}
 use Rattle.ac_prune.proofs.Roots.HostLemmas.{behind_hosts, candidate_open, candidate_parts}
-use Rattle.ac_prune.proofs.Roots.TreeLemmas.{or_left, or_right}
+use Rattle.ac_prune.proofs.Roots.TreeLemmas.{any_there, or_left, or_right, range_there}
 use Rattle.ac_prune.proofs.Search.OpenLemmas.{amounts_among, room_each}
 use Rattle.ac_prune.proofs.Roots.RootLemmas.{any_within, served_fits}
 
@@ -58,7 +58,7 @@ either_one true true c h = inl (refl, refl)
 either_one true false c h = inr h
 either_one false b c h = inr h
 
-either_more : (a b c : Bool) → (b ≡ true → c ≡ true) → (a || b) ≡ true → (a || c) ≡ true
+pub either_more : (a b c : Bool) → (b ≡ true → c ≡ true) → (a || b) ≡ true → (a || c) ≡ true
 either_more true b c more h = refl
 either_more false b c more h = more h
 
@@ -143,37 +143,38 @@ served_some all r slot h =
 
 -- ---- The laws
 
--- no list is a candidate where each candidate shows what isn't so
-none_by : (all : List Provider) (asked : Asked) (count : ℕ) → ((t : List ℕ) → IsListBelow (length all) (length (slots_of asked)) t → is_candidate all asked t ≡ true → 0 < count)
-    → count ≡ 0 → candidates all asked ≡ []
+-- nothing is a candidate where each root at which one may stand shows what isn't so
+pub none_at_roots : (all : List Provider) (asked : Asked) (G : Type 0) → ((r : ℕ) → r < length all → has_each_slot all asked r ≡ true → holds_required all asked r ≡ true → G) → (G → ⊥)
+    → candidates all asked ≡ []
 unfolding candidates
-none_by all asked count some none =
+none_at_roots all asked G shows wrong =
+    let places = range_with_len 0 (length all) in
+    let counted = λ (r : ℕ). has_each_slot all asked r && holds_required all asked r in
+    let one = λ (r : ℕ) (low : r < length all) (h : counted r ≡ true). let both = and_parts (has_each_slot all asked r) (holds_required all asked r) h in shows r low both.0 both.1 in
     filter_none (λ t. is_candidate all asked t) (all_lists (length all) (length (slots_of asked)))
     (each_weaker (IsListBelow (length all) (length (slots_of asked))) (λ t. is_candidate all asked t ≡ false) (all_lists (length all) (length (slots_of asked)))
-    (λ t list. false_from_ne_true _ (λ candidate. absurd (omega (arith, some t list candidate, none))))
+    (λ t list. false_from_ne_true _ (λ candidate. wrong
+    (any_gives counted places G (each_weaker (λ r. r < length all) (λ r. counted r ≡ true → G) places one (each_range 0 (length all) (length all) (omega arith))) (root_there all asked t list candidate))))
     (each_all_lists (length all) (length (slots_of asked))))
 
--- nor where no root shows what one does at which a candidate stands
-none_at_roots : (all : List Provider) (asked : Asked) (shows : ℕ → Bool) → ((r : ℕ) → has_each_slot all asked r && holds_required all asked r ≡ true → shows r ≡ true)
+-- so where none of them is counted
+none_counted : (all : List Provider) (asked : Asked) (shows : ℕ → Bool) → ((r : ℕ) → has_each_slot all asked r ≡ true → holds_required all asked r ≡ true → shows r ≡ true)
     → count_of all shows ≡ 0 → candidates all asked ≡ []
-none_at_roots all asked shows weaker = none_by all asked (count_of all shows) (λ t list candidate.
-    any_kept shows (range_with_len 0 (length all))
-    (any_weaker (λ r. has_each_slot all asked r && holds_required all asked r) shows weaker (range_with_len 0 (length all)) (root_there all asked t list candidate)))
+none_counted all asked shows are none = none_at_roots all asked (0 < count_of all shows)
+    (λ r low each held. any_kept shows (range_with_len 0 (length all)) (any_there shows (range_with_len 0 (length all)) r (range_there (length all) r low) (are r each held)))
+    (λ some. omega (arith, some, none))
 
 pub none_without_traits : NoneWithoutTraits
-none_without_traits all asked = none_at_roots all asked (λ r. has_each_slot all asked r && holds_required all asked r) (λ r h. h)
+none_without_traits all asked = none_counted all asked (λ r. has_each_slot all asked r && holds_required all asked r) (λ r each held. and_from _ _ each held)
 
 pub none_without_roots : NoneWithoutRoots
-none_without_roots all asked = none_at_roots all asked (has_each_slot all asked) (λ r h. (and_parts _ _ h).0)
+none_without_roots all asked = none_counted all asked (has_each_slot all asked) (λ r each held. each)
 
 pub root_traits_zero : RootTraitsZero
-root_traits_zero all asked = none_at_roots all asked (takes_root all asked) (λ r h. (and_parts _ _ (and_parts _ _ h).0).0)
+root_traits_zero all asked = none_counted all asked (takes_root all asked) (λ r each held. (and_parts _ _ each).0)
 
 pub slot_zero : SlotZero
-slot_zero all asked s low = none_by all asked (slot_counts all (slot_at asked s)).room (λ t list candidate.
-    any_gives (λ r. has_each_slot all asked r && holds_required all asked r) (range_with_len 0 (length all)) (0 < (slot_counts all (slot_at asked s)).room)
-    (each_all _ (range_with_len 0 (length all)) (λ r h.
-    let each = (and_parts _ _ (and_parts _ _ h).0).1 in
-    served_some all r (slot_at asked s)
-    (true_from_ne_false _ (λ away. absurd (false≢true (sym (list_all_at (λ slot. is_served all r slot) (slots_of asked) s no_slot low away) ∙ each))))))
-    (root_there all asked t list candidate))
+slot_zero all asked s low none = none_at_roots all asked (0 < (slot_counts all (slot_at asked s)).room)
+    (λ r here each held. served_some all r (slot_at asked s)
+    (true_from_ne_false _ (λ away. absurd (false≢true (sym (list_all_at (λ slot. is_served all r slot) (slots_of asked) s no_slot low away) ∙ (and_parts _ _ each).1)))))
+    (λ some. omega (arith, some, none))

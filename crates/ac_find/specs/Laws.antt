@@ -1,8 +1,8 @@
 -- What the laws say of the counts of an explanation, and of the roots that fit.
-use Rattle.std.specs.Prelude.{◌≡◌, ◌<◌, ◌≤◌, ℕ, not, List, [], length}
-use Rattle.std.specs.List.{AllByRecursion, list_any, range_with_len}
-use Rattle.std.specs.Option.{is_none}
-use Rattle.ac_query.specs.Asked.{Asked, Slot, slots_of}
+use Rattle.std.specs.Prelude.{◌≡◌, ◌<◌, ◌≤◌, ◌&&◌, ◌||◌, ℕ, Bool, true, false, not, List, [], length}
+use Rattle.std.specs.List.{AllByRecursion, list_all, list_any, range_with_len}
+use Rattle.std.specs.Option.{is_none, option_map_or}
+use Rattle.ac_query.specs.Asked.{Asked, Group, Slot, slots_of}
 use Rattle.ac_cloud.specs.World.{Provider}
 use Rattle.ac_rules.specs.Pages.{candidates}
 use Rattle.ac_rules.specs.Placed.{slot_at}
@@ -10,6 +10,7 @@ use Rattle.ac_rules.specs.Together.{is_empty}
 use Rattle.ac_find.specs.Explained.{SlotCounts, TreeCounts, class_rooms, slot_counts, tree_counts}
 use Rattle.ac_prune.specs.Fitting.{fits_at}
 use Rattle.ac_find.specs.Lacking.{lack_at}
+use Rattle.ac_find.specs.Missing.{some_root_has, somebody_has_class, somebody_has_one, somebody_has_trait, somebody_is, somebody_is_in}
 
 -- no number of a slot is greater than the one before it
 pub record Falls (counts : SlotCounts) (providers : ℕ) : Type 0 where
@@ -52,6 +53,29 @@ NoneWithoutRoots = (all : List Provider) (asked : Asked) → (tree_counts all as
 -- where no root that has one also holds what the group without a suffix requires, there is none either; no count is less than this one
 abbrev pub NoneWithoutTraits : Type 0
 NoneWithoutTraits = (all : List Provider) (asked : Asked) → (tree_counts all asked).required_traits ≡ 0 → candidates all asked ≡ []
+
+-- of all that a group asks providers to have, somebody has it: each class, each trait that it requires, and of each list one
+abbrev pub somebody_has_each : List Provider → Group → Bool
+somebody_has_each all g =
+    list_all (λ need. somebody_has_class all need.0) g.needs
+    && (list_all (λ name. somebody_has_trait all name) g.required && list_all (λ names. somebody_has_one all names) g.any_of)
+
+-- where nobody has something that a group asks, there is no candidate
+abbrev pub NobodyHas : Type 0
+NobodyHas = (all : List Provider) (asked : Asked) → list_all (λ g. somebody_has_each all g.1) asked.groups ≡ false → candidates all asked ≡ []
+
+-- of each rule of a group that asks for aggregates somebody is in one of them, and the provider is there whose tree is asked for
+abbrev pub somebody_is_there : List Provider → Group → Bool
+somebody_is_there all g =
+    list_all (λ rule. rule.forbids || somebody_is_in all rule.ids) g.member_of && option_map_or (λ id. somebody_is all id) g.in_tree true
+
+-- nor where that isn't so of a slot; a group without a slot asks it of nobody
+abbrev pub NobodyIsThere : Type 0
+NobodyIsThere = (all : List Provider) (asked : Asked) → list_all (λ slot. somebody_is_there all slot.group) (slots_of asked) ≡ false → candidates all asked ≡ []
+
+-- nor where no root has a trait that is asked of it
+abbrev pub NoRootHas : Type 0
+NoRootHas = (all : List Provider) (asked : Asked) → list_all (λ name. some_root_has all name) asked.root_required ≡ false → candidates all asked ≡ []
 
 -- some root fits exactly where there is a candidate
 abbrev pub SomeFits : Type 0

@@ -1,6 +1,6 @@
 //! What holds of the counts of an explanation, and of the roots that fit: a function's contract is a law, and no program calls it.
 
-ghost use Rattle.ac_find.specs.Laws.{CountsFall, LackNothing, NoneWithoutRoots, NoneWithoutTraits, RootTraitsZero, RootsFall, SlotZero, SomeFits};
+ghost use Rattle.ac_find.specs.Laws.{CountsFall, LackNothing, NoRootHas, NobodyHas, NobodyIsThere, NoneWithoutRoots, NoneWithoutTraits, RootTraitsZero, RootsFall, SlotZero, SomeFits};
 
 /// In a slot's line no number is greater than the one before it.
 pub fn counts_fall()
@@ -32,6 +32,24 @@ pub fn none_without_roots()
 /// Where no root holds what the group without a suffix requires, beside a provider for each slot, there is no candidate.
 pub fn none_without_traits()
     ensures { NoneWithoutTraits }
+{}
+
+/// Where nobody has something that a group asks, a class or a required trait, there is no candidate.
+#[tactic(auto, using(crate::proofs::NobodyLaws::nobody_has))]
+pub fn nobody_has()
+    ensures { NobodyHas }
+{}
+
+/// Where nobody is in the aggregates that a slot's group asks for, or is the provider whose tree it asks for, there is no candidate.
+#[tactic(auto, using(crate::proofs::NobodyLaws::nobody_is_there))]
+pub fn nobody_is_there()
+    ensures { NobodyIsThere }
+{}
+
+/// Where no root has a trait that is asked of it, there is no candidate.
+#[tactic(auto, using(crate::proofs::NobodyLaws::no_root_has))]
+pub fn no_root_has()
+    ensures { NoRootHas }
 {}
 
 /// Some root fits exactly where there is a candidate.
