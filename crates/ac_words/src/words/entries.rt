@@ -46,19 +46,24 @@ fn call<'a>(name: Name, entries: &ArgMatches<'a>) -> Option<Call<'a>>
 {
     let after = entry(entries, "after");
     let traits = !is_set(entries, "no-traits");
-    let sum = is_set(entries, "sum");
     match name {
         Name::Check => Some(Call::Job(Command::Check, "")),
         Name::Candidates => asking(entries, Command::Candidates { after, traits }),
         Name::Tokens => asking(entries, Command::Tokens { after }),
         Name::List => asking(entries, Command::List { after, traits }),
-        Name::Fill => asking(entries, Command::Fill { sum }),
+        Name::Fill => {
+            let sum = is_set(entries, "sum");
+            asking(entries, Command::Fill { sum })
+        }
         Name::Verify => {
             let token = entry(entries, "token")?;
             asking(entries, Command::Verify { token })
         }
         Name::Explain => asking(entries, Command::Explain),
-        Name::Hosts => asking(entries, Command::Hosts { sum }),
+        Name::Hosts => {
+            let sum = is_set(entries, "sum");
+            asking(entries, Command::Hosts { sum })
+        }
         Name::Why => {
             let host = entry(entries, "host")?;
             asking(entries, Command::Why { host })
