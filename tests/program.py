@@ -108,7 +108,7 @@ def example_of(name):
     """A case that runs the command at the end of a text of help, over the example cloud."""
     command = help_text(name).rstrip('\n').rpartition('\n')[2].strip()
     called = re.sub('^ac_cli', lambda _: shlex.quote(PROGRAM), command)
-    return Case(f'the example in the help: {command}', ['sh', '-c', f'cd examples && {called}'], SOME, status={'verify': 1, 'explain': 1, 'hosts': 1, 'why': 1}.get(name, 0))
+    return Case(f'the example in the help: {command}', ['sh', '-c', f'cd examples && {called}'], SOME, status={'fill': 1, 'verify': 1, 'explain': 1, 'hosts': 1, 'why': 1}.get(name, 0))
 
 
 HELP = [
