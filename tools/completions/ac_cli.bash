@@ -16,7 +16,7 @@ _ac_cli() {
         return
         ;;
     --microversion)
-        mapfile -t COMPREPLY < <(compgen -W '1.36 1.39' -- "$word")
+        mapfile -t COMPREPLY < <(compgen -W '1.36 1.37 1.38 1.39' -- "$word")
         return
         ;;
     --after)
