@@ -4,3 +4,4 @@ pub mod Explanation
 pub mod HostRows
 pub mod HostSums
 pub mod WhyRows
+pub mod Within

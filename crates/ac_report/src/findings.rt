@@ -7,6 +7,7 @@ mod host_sums;
 mod lacks;
 mod question;
 mod why_rows;
+mod within;
 
 pub use explanation::{
     FoundWithout, explanation_status, find_without, has_candidate, push_explanation, push_reasons,
@@ -15,3 +16,4 @@ pub use host_rows::{hosts_status, hosts_text};
 pub use host_sums::sums_text;
 pub use question::Question;
 pub use why_rows::{root_place, why_at};
+pub use within::roots_within;

@@ -1,10 +1,10 @@
 -- The text of `hosts`: a header, and a row for each root, as `csv` writes them.
-use Rattle.std.specs.Prelude.{ℕ, Bool, true, false, List, [], ◌∷◌, map, length, codes, Option, None, Some, if◌then◌else◌}
+use Rattle.std.specs.Prelude.{ℕ, Bool, true, false, List, [], ◌∷◌, map, codes, Option, None, Some, if◌then◌else◌}
 use Rattle.std.specs.Fmt.{decimal}
-use Rattle.std.specs.List.{filter, flat_map, list_any, range_with_len}
+use Rattle.std.specs.List.{flat_map, list_any}
 use Rattle.csv.specs.Writing.{default_writer, row_text}
 use Rattle.ac_base.specs.Texts.{id_text}
-use Rattle.ac_cloud.specs.World.{Provider, provider_at, id_at, is_root}
+use Rattle.ac_cloud.specs.World.{Provider, provider_at, id_at}
 use Rattle.ac_query.specs.Asked.{Asked}
 use Rattle.ac_report.specs.Names.{shown_name}
 use Rattle.ac_prune.specs.Fitting.{fits_at}
@@ -52,13 +52,10 @@ host_fields root name fits lacks = root ∷ name ∷ yes_or_no fits ∷ slot_sho
 abbrev pub host_row : List Provider → Asked → ℕ → List (List ℕ)
 host_row all asked r = host_fields (id_text (id_at all r)) (shown_name (provider_at all r).name) (fits_at all asked r) (lack_at all asked r)
 
--- all roots, in the order of their UUIDs
-abbrev pub roots_in_order : List Provider → List ℕ
-roots_in_order all = filter (λ r. is_root all (id_at all r)) (range_with_len 0 (length all))
+-- a row for each of some roots
+unfoldable pub hosts_text : List Provider → Asked → List ℕ → List ℕ
+hosts_text all asked roots = flat_map (row_text default_writer) (host_columns ∷ map (host_row all asked) roots)
 
-unfoldable pub hosts_text : List Provider → Asked → List ℕ
-hosts_text all asked = flat_map (row_text default_writer) (host_columns ∷ map (host_row all asked) (roots_in_order all))
-
--- 0 where some root fits, 1 where none does
-abbrev pub hosts_status : List Bool → ℕ
-hosts_status fits = if list_any (λ fits. fits) fits then 0 else 1
+-- 0 where some of these roots fits, 1 where none does
+abbrev pub hosts_status : List Provider → Asked → List ℕ → ℕ
+hosts_status all asked roots = if list_any (fits_at all asked) roots then 0 else 1

@@ -10,7 +10,7 @@ use Rattle.ac_find.specs.declared.lacks.Stage.{Stage}
 use Rattle.ac_find.specs.declared.lacks.Stage.TheVariants as stage
 use Rattle.ac_find.specs.declared.lacks.Lack.{Lack}
 use Rattle.ac_find.specs.declared.lacks.Lack.TheVariants as lack
-use Rattle.ac_report.specs.Findings.HostRows.{lack_name, roots_in_order, slot_shown}
+use Rattle.ac_report.specs.Findings.HostRows.{lack_name, slot_shown}
 
 -- ---- What roots may lack
 
@@ -43,10 +43,6 @@ lack_number (Some lack.RequiredTraits) = 2
 lack_number (Some lack.Together) = 3
 lack_number (Some (lack.Slot slot test)) = 6 * slot + stage_number test
 
--- what each root lacks
-abbrev pub lacks_of_roots : List Provider → Asked → List (Option Lack)
-lacks_of_roots all asked = map (lack_at all asked) (roots_in_order all)
-
 -- how many of these are this
 abbrev pub count_lacks : List (Option Lack) → Option Lack → ℕ
 count_lacks found lacks = length (filter (λ other. lack_number other == lack_number lacks) found)
@@ -77,5 +73,6 @@ rows_falling sums most = flat_map (λ i. rows_of_count sums (most - i)) (range_w
 abbrev pub sum_rows : List (Option Lack) → List Lack → List (List (List ℕ))
 sum_rows found kinds = (sum_columns ∷ fits_row (count_lacks found None) ∷ []) ++ rows_falling (counted found kinds) (length found)
 
-unfoldable pub sums_text : List Provider → Asked → List ℕ
-sums_text all asked = flat_map (row_text default_writer) (sum_rows (lacks_of_roots all asked) (possible_lacks (length (slots_of asked))))
+-- of some roots
+unfoldable pub sums_text : List Provider → Asked → List ℕ → List ℕ
+sums_text all asked roots = flat_map (row_text default_writer) (sum_rows (map (lack_at all asked) roots) (possible_lacks (length (slots_of asked))))

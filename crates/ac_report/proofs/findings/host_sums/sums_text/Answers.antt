@@ -1,19 +1,20 @@
-use Rattle.std.proofs.Common.{◌≡◌, ◌∙◌, ℕ, ◌++◌, List, [], ◌∷◌, IfOk, None, Option, length, subst, ap, ap₂, arith}
+use Rattle.std.proofs.Common.{◌≡◌, ◌∙◌, ℕ, ◌++◌, List, [], ◌∷◌, IfOk, None, Option, length, map, subst, ap, ap₂, arith}
 use Rattle.std.specs.List.{flat_map}
 use Rattle.csv.specs.Writing.{default_writer, row_text}
 use Rattle.ac_cloud.specs.Cloud.CloudWorld.{providers_of}
 use Rattle.ac_query.specs.Asked.{slots_of}
 use Rattle.ac_query.specs.Shown.Queries.{asked_of}
+use Rattle.ac_find.specs.Lacking.{lack_at}
 use Rattle.ac_find.specs.declared.lacks.Lack.{Lack}
-use Rattle.ac_report.specs.Findings.HostSums.{count_lacks, counted, fits_row, lacks_of_roots, possible_lacks, rows_falling, sum_columns, sum_rows, sums_text}
+use Rattle.ac_report.specs.Findings.HostSums.{count_lacks, counted, fits_row, possible_lacks, rows_falling, sum_columns, sum_rows, sums_text}
 use Rattle.ac_report.proofs.findings.host_sums.sums_text.Goals as goal
 
 pub returns : goal.returns
 unfolding sums_text
 returns c =
-    let found = lacks_of_roots (providers_of c.args.cloud.now) (asked_of c.args.query.now) in
+    let found = map (lack_at (providers_of c.args.cloud.now) (asked_of c.args.query.now)) c.args.roots.now in
     let kinds = possible_lacks (length (slots_of (asked_of c.args.query.now))) in
-    let found_is : c.in_ok-found.found.items ≡ found = c.in_ok-found.ensures.lacks in
+    let found_is : c.in_ok-found.found.items ≡ found = c.in_ok-found.ensures in
     let kinds_are : c.in_ok-kinds.kinds.items ≡ kinds = c.in_ok-kinds.ensures ∙ ap possible_lacks c.count_slots.ensures.count in
     let fits : c.count_lacks.result ≡ count_lacks found None = c.count_lacks.ensures ∙ ap (λ (fs : List (Option Lack)). count_lacks fs None) (c.deref-3.ensures.value ∙ found_is) in
     let sums : c.deref-4.result.now ≡ counted found kinds =
