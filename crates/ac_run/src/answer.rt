@@ -1,6 +1,6 @@
 //! The answers over a cloud, each written with its status.
 
-ghost use Rattle.std.specs.Prelude.{◌≡◌, ◌<◌, IfOk, Some, None, length};
+ghost use Rattle.std.specs.Prelude.{◌≡◌, ◌<◌, ◌^◌, IfOk, Some, None, length};
 ghost use Rattle.std.specs.List.{All};
 ghost use Rattle.std.specs.Option.{option_map};
 ghost use Rattle.ac_cloud.specs.Cloud.CloudWorld.{providers_of, world_of};
@@ -23,12 +23,12 @@ ghost use Rattle.ac_search.specs.Shown.Walk.{MayStop};
 use crate::outputs::{detailed_line, push_counts, push_text, push_verdict, verdict_status};
 use crate::placements::write_fill;
 use crate::wanted::Wanted;
-use ac_base::{NoMemory, Sink};
+use ac_base::{Id, NoMemory, Sink};
 use ac_find::{Lack, all_slots, broken_detail, find_lacks, tree_counts};
 use ac_query::{Query, Token};
 use ac_report::findings::{
     Question, explanation_status, find_without, has_candidate, hosts_status, hosts_text,
-    push_explanation, push_reasons, root_place, sums_text, why_at,
+    push_explanation, push_reasons, root_place, roots_within, sums_text, why_at,
 };
 use ac_report::{PageFault, write_list, write_shown_page, write_tokens};
 use ac_rules::{Assignment, InCloud, Rule, Verdict, verify};
@@ -251,18 +251,21 @@ fn hosts_told(
     cloud: &Cloud,
     query: &Query,
     sum: bool,
+    roots: &[u32],
     fits: &[bool],
     lacks: &[Option<Lack>],
 ) -> Result<Vec<u8>, NoMemory>
+    requires roots { All (λ r. r < length (providers_of cloud.now)) roots.now }
+    requires few { length roots.now < 2 ^ 32 }
     requires fits { fits.now ≡ fitting (providers_of cloud.now) (asked_of query.now) }
     requires lacks { lacks.now ≡ lacks_of (providers_of cloud.now) (asked_of query.now) }
     ensures { IfOk result (λ text.
-        text.items ≡ hosts_told sum (providers_of cloud.now) (asked_of query.now)) }
+        text.items ≡ hosts_told sum (providers_of cloud.now) (asked_of query.now) roots.now) }
 {
     if sum {
-        sums_text(alloc, cloud, query, lacks)
+        sums_text(alloc, cloud, query, roots, lacks)
     } else {
-        hosts_text(alloc, cloud, query, fits, lacks)
+        hosts_text(alloc, cloud, query, roots, fits, lacks)
     }
 }
 
@@ -273,18 +276,20 @@ fn write_hosts<W: Sink>(
     cloud: &Cloud,
     query: &Query,
     sum: bool,
+    within: Option<Id>,
     tries: Option<u64>,
     out: &mut W,
 ) -> Result<u8, PageFault>
-    ensures { Delivers (host_rows (providers_of cloud.now) sum (asked_of query.now) None)
+    ensures { Delivers (host_rows (providers_of cloud.now) sum within (asked_of query.now) None)
         (MayStop tries (providers_of cloud.now) (asked_of query.now) None)
         result
         (W.taken out.old) (W.taken out.new) (W.failures out.old) (W.failures out.new) }
 {
     let fits = fitting_roots(alloc, cloud, query, tries)?;
     let lacks = find_lacks(alloc, cloud, query, &fits)?;
-    let text = hosts_told(alloc, cloud, query, sum, &fits, &lacks)?;
-    push_text(out, &text, hosts_status(&fits))
+    let roots = roots_within(alloc, cloud, within)?;
+    let text = hosts_told(alloc, cloud, query, sum, &roots, &fits, &lacks)?;
+    push_text(out, &text, hosts_status(cloud, query, &roots, &fits))
 }
 
 // How far a query comes in the tree of a provider.
@@ -335,7 +340,9 @@ pub fn write_answer<W: Sink>(
             write_verdict(alloc, cloud, query, token, *detail, out)
         }
         Wanted::Explanation(question) => write_explanation(alloc, cloud, question, tries, out),
-        Wanted::Hosts(query, sum) => write_hosts(alloc, cloud, query, *sum, tries, out),
+        Wanted::Hosts(query, sum, within) => {
+            write_hosts(alloc, cloud, query, *sum, *within, tries, out)
+        }
         Wanted::Why(query, host) => write_why(alloc, cloud, query, *host, tries, out),
     }
 }

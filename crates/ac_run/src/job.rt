@@ -1,4 +1,5 @@
 //! What is to be done, and how refusals are told.
+use ac_base::Id;
 use ac_query::Version;
 use ac_tables::FiveTables;
 
@@ -34,9 +35,10 @@ pub enum Command<'a> {
     },
     /// Writes how many providers and roots come how far, and whether there is a candidate.
     Explain,
-    /// Writes at which roots candidates stand, and what the others lack, or how many of them lack what.
+    /// Writes at which roots, or at which of an aggregate, candidates stand, and what the others lack, or how many of them lack what.
     Hosts {
         sum: bool,
+        within: Option<Id>,
     },
     /// Writes how far each provider of a host comes, and what it lacks. A host is a provider's UUID, or a name that no other provider has.
     Why {

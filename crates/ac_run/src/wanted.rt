@@ -21,7 +21,7 @@ ghost use Rattle.ac_run.specs.Wanted.{ExplainsHost, ExplainsQuery, ExplainsRest,
 
 use crate::job::{Command, Job};
 use crate::refusal::AskRefusal;
-use ac_base::NoMemory;
+use ac_base::{Id, NoMemory};
 use ac_cloud::Cloud;
 use ac_query::{Query, QueryFault, Token, TokenFault, Version};
 use ac_report::findings::Question;
@@ -44,8 +44,8 @@ pub enum Wanted {
     Verdict(Query, Token, bool),
     /// How far a query comes.
     Explanation(Question),
-    /// Which roots fit, and what the others lack, or how many of them lack what.
-    Hosts(Query, bool),
+    /// Which roots, or which of an aggregate, fit, and what the others lack, or how many of them lack what.
+    Hosts(Query, bool, Option<Id>),
     /// How far a query comes in the tree of a provider, which stands at this place.
     Why(Query, u32),
 }
@@ -152,7 +152,7 @@ fn wanted_of(alloc: Global, job: &Job, cloud: &Cloud, query: Query) -> Result<Wa
             Ok(Wanted::Verdict(query, token, job.detail.is_some()))
         }
         Command::Explain => Ok(Wanted::Explanation(read_question(alloc, query, job)?)),
-        Command::Hosts { sum } => Ok(Wanted::Hosts(query, sum)),
+        Command::Hosts { sum, within } => Ok(Wanted::Hosts(query, sum, within)),
         Command::Why { host } => Ok(Wanted::Why(query, find_host(cloud, host)?)),
     }
 }

@@ -98,7 +98,7 @@ asked_by_name version name words =
     else if bytes_eq name (codes "fill") then asks_fill words
     else if bytes_eq name (codes "verify") then asks_about verify version words
     else if bytes_eq name (codes "explain") then asks_query explain version words
-    else if bytes_eq name (codes "hosts") then asks_query (hosts false) version words
+    else if bytes_eq name (codes "hosts") then asks_query (hosts false None) version words
     else if bytes_eq name (codes "why") then asks_about why version words
     else if bytes_eq name (codes "claim") then asks_claim words
     else if bytes_eq name (codes "release") then asks_release words
