@@ -1,5 +1,6 @@
 //! Request groups: what each needs of one provider, or of several.
-ghost use Rattle.std.specs.Prelude.{◌≡◌, map};
+ghost use Rattle.std.specs.Prelude.{◌≡◌, [], map, if◌then◌else◌};
+ghost use Rattle.std.specs.List.{flat_map};
 ghost use Rattle.std.specs.List.Sorted.{IsStrictlySortedBy};
 ghost use Rattle.std.specs.Ordering.{nat_cmp};
 ghost use Rattle.ac_base.specs.Names.{class_bytes, trait_bytes};
@@ -45,7 +46,11 @@ pub struct Group {
     pub(crate) forbidden: Vec<TraitName>,
     pub(crate) any_of: Vec<AnyOf>,
     pub(crate) member_of: Vec<AggregateRule>,
+    // What its rules forbid, as one rule.
+    pub(crate) forbidden_aggregates: AggregateRule,
     pub(crate) in_tree: Option<Id>,
+    ghost forbidden_gathered: { forbidden_aggregates.ids.items
+        ≡ flat_map (λ rule. if rule.forbids then rule.ids.items else []) member_of.items } by { Prim.hlevel props },
     ghost needs_rising: { IsStrictlySortedBy text_cmp (map (λ need. class_bytes need.class) needs.items) } by { Prim.hlevel props },
     ghost required_rising: { IsStrictlySortedBy text_cmp (map trait_bytes required.items) } by { Prim.hlevel props },
     ghost forbidden_rising: { IsStrictlySortedBy text_cmp (map trait_bytes forbidden.items) } by { Prim.hlevel props },

@@ -1,4 +1,5 @@
 -- The rules, tested slot by slot.
+pub mod AggregateLemmas
 pub mod AnchorLemmas
 pub mod ApartLemmas
 pub mod ClaimLaws

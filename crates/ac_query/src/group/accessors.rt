@@ -1,5 +1,5 @@
 //! What groups, needs and aggregate rules give.
-ghost use Rattle.std.specs.Prelude.{◌≡◌, ◌<◌, ◌≤◌, map};
+ghost use Rattle.std.specs.Prelude.{◌≡◌, ◌<◌, ◌≤◌, ◌&&◌, map};
 ghost use Rattle.std.specs.List.{list_any};
 ghost use Rattle.std.specs.List.Sorted.{IsStrictlySortedBy};
 ghost use Rattle.std.specs.Option.{option_map};
@@ -131,6 +131,16 @@ impl Group {
         self.member_of.as_slice()
     }
 
+    /// Whether an aggregate that one of its rules forbids is one of these, which rise. However many rules there are, what there is less of is
+    /// gone through.
+    pub fn forbids_any(&self, own: &[Id]) -> bool
+        requires { IsStrictlySortedBy nat_cmp own.now }
+        ensures { result ≡ list_any (λ rule. rule.forbids && list_any (is_one_of own.now) rule.ids)
+            (group_asked self.now).member_of }
+    {
+        self.forbidden_aggregates.names_any(own)
+    }
+
     /// The group, which requires no traits if it has no suffix; what it forbids stays.
     pub(crate) fn relaxed(self) -> Group
         ensures { group_entry result ≡ relaxed (group_entry self) }
@@ -145,6 +155,7 @@ impl Group {
             forbidden,
             mut any_of,
             member_of,
+            forbidden_aggregates,
             in_tree,
         } = self;
         required.clear();
@@ -156,6 +167,7 @@ impl Group {
             forbidden,
             any_of,
             member_of,
+            forbidden_aggregates,
             in_tree,
         }
     }

@@ -1,10 +1,10 @@
 //! How a query is made of its text.
-ghost use Rattle.std.specs.Prelude.{◌≡◌, ◌<◌, ◌+◌, ◌++◌, ℕ, List, Option, IfOk, OnOk, IfErr, IfSome, Err, None, Some, length, map};
+ghost use Rattle.std.specs.Prelude.{◌≡◌, ◌<◌, ◌+◌, ◌++◌, ℕ, List, [], Option, IfOk, OnOk, IfErr, IfSome, Err, None, Some, length, map, if◌then◌else◌};
 ghost use Rattle.std.specs.Option.{option_map};
 ghost use Rattle.std.specs.List.Sorted.{IsStrictlySortedBy};
 ghost use Rattle.ac_base.specs.Names.{suffix_bytes};
 ghost use Rattle.ac_base.specs.Texts.{text_cmp};
-ghost use Rattle.std.specs.List.{slice_get};
+ghost use Rattle.std.specs.List.{flat_map, slice_get};
 ghost use Rattle.ac_query.specs.Asked as Asked;
 ghost use Rattle.ac_query.specs.Asked.{group_slots, slots_from};
 ghost use Rattle.ac_query.specs.Asks.{Asks};
@@ -21,12 +21,13 @@ ghost use Rattle.ac_query.specs.declared.fault.QueryFault.TheVariants as QueryFa
 
 use super::Query;
 use crate::fault::QueryFault;
-use crate::group::{Group, Need};
+use crate::group::{AggregateRule, Group, Need};
 use crate::reading::amount::Amount;
 use crate::reading::check::check;
 use crate::reading::draft::{Draft, GroupDraft};
 use crate::reading::pass::read_draft;
 use crate::reading::traits::{Traits, names_in_order};
+use crate::reading::values::ids_in_order;
 use crate::slot::Slot;
 use crate::version::Version;
 use ac_base::{ClassName, NoMemory, Suffix};
@@ -43,6 +44,24 @@ fn needs_in_order(alloc: Global, needs: BTreeMap<ClassName, Amount>) -> Result<V
         list.push(Need { class, amount })?;
     }
     Ok(list)
+}
+
+// What these rules forbid, as one rule.
+fn forbidden_by(alloc: Global, rules: &[AggregateRule]) -> Result<AggregateRule, NoMemory>
+    ensures { IfOk result (λ all. all.ids.items
+        ≡ flat_map (λ rule. if rule.forbids then rule.ids.items else []) rules.now) }
+{
+    let mut ids = Vec::new(alloc);
+    for rule in rules {
+        if rule.forbids {
+            ids.extend_from_slice(&rule.ids)?;
+        }
+    }
+    Ok(AggregateRule {
+        forbids: true,
+        in_order: ids_in_order(alloc, &ids)?,
+        ids,
+    })
 }
 
 /// The group of a suffix, as it was drafted.
@@ -64,6 +83,7 @@ fn group_of(alloc: Global, suffix: Option<Suffix>, draft: GroupDraft) -> Result<
     let needs = needs_in_order(alloc, needs)?;
     let required = names_in_order(alloc, required)?;
     let forbidden = names_in_order(alloc, forbidden)?;
+    let forbidden_aggregates = forbidden_by(alloc, &member_of)?;
     Ok(Group {
         suffix,
         needs,
@@ -71,6 +91,7 @@ fn group_of(alloc: Global, suffix: Option<Suffix>, draft: GroupDraft) -> Result<
         forbidden,
         any_of,
         member_of,
+        forbidden_aggregates,
         in_tree,
     })
 }

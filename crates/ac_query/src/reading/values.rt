@@ -148,8 +148,8 @@ fn ids_of(alloc: Global, set: BTreeSet<Id>) -> Result<Vec<Id>, NoMemory>
     Ok(ids)
 }
 
-// These ids in order, each once.
-fn ids_in_order(alloc: Global, ids: &[Id]) -> Result<Vec<Id>, NoMemory>
+/// These ids in order, each once.
+pub(crate) fn ids_in_order(alloc: Global, ids: &[Id]) -> Result<Vec<Id>, NoMemory>
     ensures { IfOk result (λ list. list.items ≡ rising nat_cmp ids.now) }
 {
     let set = set_of(alloc, ids.to_vec(alloc)?)?;

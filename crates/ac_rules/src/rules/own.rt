@@ -1,6 +1,6 @@
 //! The four rules of a single slot and its provider.
 
-ghost use Rattle.std.specs.Prelude.{◌≡◌, ◌<◌};
+ghost use Rattle.std.specs.Prelude.{◌≡◌, ◌<◌, ◌&&◌};
 ghost use Rattle.std.specs.List.{list_any};
 ghost use Rattle.ac_cloud.specs.World.{is_member, provider_at, root_provider};
 ghost use Rattle.ac_cloud.specs.Cloud.CloudWorld.{providers_of};
@@ -83,15 +83,29 @@ impl<'a> Placed<'a> {
         self.counts_in_any(rule) != rule.forbids()
     }
 
-    /// Aggregates: whether each rule of the slot's group is met.
-    #[tactic(auto, unfolding(crate::specs::Own::aggregates_fit))]
+    // Whether an aggregate that a rule of its group forbids counts as the provider's.
+    fn is_in_forbidden(&self) -> bool
+        ensures { result ≡ list_any (λ rule. rule.forbids && list_any
+            (λ a. counts_in (providers_of self.now.cloud.now) (placed_of self.now) a) rule.ids)
+            (placed_of self.now).slot.group.member_of }
+    {
+        let group = self.group();
+        let provider = self.its_provider();
+        group.forbids_any(provider.aggregates())
+            || (!is_suffixed(self.query, self.slot)
+                && group.forbids_any(provider.root().aggregates()))
+    }
+
+    /// Aggregates: whether each rule of the slot's group is met. Those that forbid are asked at once.
     pub fn has_aggregates(&self) -> bool
         ensures { result ≡ aggregates_fit (providers_of self.now.cloud.now) (placed_of self.now) }
     {
-        self.group()
-            .member_of()
-            .iter()
-            .all(|rule| self.meets_rule(rule))
+        !self.is_in_forbidden()
+            && self
+                .group()
+                .member_of()
+                .iter()
+                .all(|rule| rule.forbids() || self.counts_in_any(rule))
     }
 
     /// Tree: whether the provider is in the tree that the slot's group names.

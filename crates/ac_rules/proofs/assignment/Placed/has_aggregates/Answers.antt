@@ -1,11 +1,9 @@
-use Rattle.std.proofs.Common.{ap, ◌∙◌, rules}
+use Rattle.std.proofs.Common.{ap, ◌∙◌, ◌&&◌, not, rules, sym}
 use Rattle.std.specs.List.{list_all}
+use Rattle.ac_cloud.specs.Cloud.CloudWorld.{providers_of}
 use Rattle.ac_query.specs.Shown.Groups.{rule_shown}
 use Rattle.ac_rules.specs.Own.{aggregates_fit}
+use Rattle.ac_rules.specs.Shown.Assignments.{placed_of}
 use Rattle.ac_rules.proofs.ChainLemmas.{all_items}
+use Rattle.ac_rules.proofs.EachSlot.AggregateLemmas.{rules_met}
 use Rattle.ac_rules.proofs.assignment.Placed.has_aggregates.Goals as goal
-
-pub returns : goal.returns
-unfolding aggregates_fit
-returns c = all_items rule_shown _ _ _ _ _ c.all.ensures.ran c.iter.ensures.rest (λ x b q k. search rules)
-    ∙ ap (list_all _) (c.member_of.ensures ∙ ap (λ entry. entry.1.member_of) c.group.ensures)
