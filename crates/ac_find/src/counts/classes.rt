@@ -2,7 +2,6 @@
 
 ghost use Rattle.std.specs.Prelude.{◌≡◌, ◌<◌, ◌&&◌, IfOk, length, map, nat_lt, slice_index_or, false, if◌then◌else◌};
 ghost use Rattle.std.specs.List.{range_with_len};
-ghost use Rattle.ac_base.specs.Names.{class_bytes};
 ghost use Rattle.ac_cloud.specs.Cloud.CloudWorld.{providers_of};
 ghost use Rattle.ac_cloud.specs.World.{left_of, provider_at, used_of};
 ghost use Rattle.ac_query.specs.Asked.{slots_of};
@@ -15,7 +14,7 @@ ghost use Rattle.ac_find.specs.Explained.{class_lefts, class_room, class_rooms, 
 ghost use Rattle.ac_find.specs.Shown.Explained.{fitting, slot_counted, slot_shown};
 
 use super::{SlotCounts, meets_rules, slot_counts};
-use ac_base::{ClassName, NoMemory};
+use ac_base::NoMemory;
 use ac_cloud::Cloud;
 use ac_query::{Need, Query};
 use ac_rules::Placed;
@@ -115,33 +114,32 @@ fn rooms_of(
 }
 
 // How much of a class is left to a provider that is marked; 0 to others.
-fn left_marked(cloud: &Cloud, marks: &[bool], ix: u32, class: &ClassName) -> u64
+fn left_marked(cloud: &Cloud, marks: &[bool], ix: u32, need: &Need) -> u64
     requires marks { length marks.now ≡ length (providers_of cloud.now) }
     requires provider { ix < length (providers_of cloud.now) }
     ensures { result ≡ (if slice_index_or marks.now ix false
-        then left_of (inventory_of (provider_at (providers_of cloud.now) ix)
-        (class_bytes class.now))
-        (used_of (provider_at (providers_of cloud.now) ix) (class_bytes class.now)) else 0) }
+        then left_of (inventory_of (provider_at (providers_of cloud.now) ix) (need_entry need.now).0)
+        (used_of (provider_at (providers_of cloud.now) ix) (need_entry need.now).0) else 0) }
 {
     if marks[ix as usize] {
-        cloud.provider(ix).left(class)
+        cloud.provider(ix).left(need.class())
     } else {
         0
     }
 }
 
 // The most that is left of a class to one of the marked providers.
-fn most_left(cloud: &Cloud, marks: &[bool], class: &ClassName) -> u64
+fn most_left(cloud: &Cloud, marks: &[bool], need: &Need) -> u64
     requires { length marks.now ≡ length (providers_of cloud.now) }
     ensures { result ≡ greatest_of (map
         (λ p. if slice_index_or marks.now p false
-        then left_of (inventory_of (provider_at (providers_of cloud.now) p) (class_bytes class.now))
-        (used_of (provider_at (providers_of cloud.now) p) (class_bytes class.now)) else 0)
+        then left_of (inventory_of (provider_at (providers_of cloud.now) p) (need_entry need.now).0)
+        (used_of (provider_at (providers_of cloud.now) p) (need_entry need.now).0) else 0)
         (range_with_len 0 (length (providers_of cloud.now)))) }
 {
     let mut most = 0;
     for ix in 0..cloud.len() {
-        most = most.max(left_marked(cloud, marks, ix, class));
+        most = most.max(left_marked(cloud, marks, ix, need));
     }
     most
 }
@@ -156,7 +154,7 @@ fn find_most(alloc: Global, cloud: &Cloud, query: &Query, s: usize) -> Result<Ve
     let marks = fitting(alloc, cloud, query, s)?;
     let mut lefts = Vec::new(alloc);
     for need in needs_at(query, s) {
-        lefts.push(most_left(cloud, &marks, need.class()))?;
+        lefts.push(most_left(cloud, &marks, need))?;
     }
     Ok(lefts)
 }
