@@ -7,6 +7,9 @@ ghost use Rattle.ac_cloud.specs.World.{World};
 ghost use Rattle.ac_cloud.specs.Cloud.CloudWorld.{providers_of, world_of};
 ghost use Rattle.ac_run.specs.Answer.{Outcome, answer, past_tables, remedy_in, with_detail};
 ghost use Rattle.ac_run.specs.Wanted.Given.{tables_in};
+ghost use Rattle.ac_query.specs.Laws.Gathered.{asked_by};
+ghost use Rattle.ac_query.specs.Pairs.{pairs_of};
+ghost use Rattle.ac_run.specs.Notes.{note_to, noted_by};
 ghost use Rattle.ac_run.specs.Wanted.{IsSound, answer_to};
 ghost use Rattle.ac_run.specs.Feeds.Draining.{texts_shown};
 ghost use Rattle.ac_run.specs.Feeds.{Bytes, TellBytes, too_large};
@@ -113,6 +116,10 @@ pub(crate) fn make_ready<R: Feed>(
         (remedy_in (task_of job.now) (world_of ready.cloud))
         (answer_to ready.wanted (world_of ready.cloud))) }
     ensures sound { IfOk result (λ ready. IsSound (providers_of ready.cloud) ready.wanted) }
+    ensures note { IfOk result (λ ready. (b : Bytes) → TellBytes R.remaining inputs.old b
+        → noted_by (task_of job.now).command (world_stated (tables_in b))
+        (asked_by job.now.version (pairs_of job.now.query.now))
+        ≡ note_to ready.wanted (world_of ready.cloud)) }
     ensures stops { IfOk result (λ ready. (b : Bytes) → TellBytes R.remaining inputs.old b
         → AnswerMayStop ready.wanted job.now.tries (providers_of ready.cloud)
         → TaskMayStop (task_of job.now) b) }

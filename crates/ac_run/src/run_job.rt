@@ -5,6 +5,7 @@ ghost use Rattle.ac_base.specs.Devices.{Rises, TakesPart};
 ghost use Rattle.ac_tables.specs.declared.fault.Table.{Table};
 ghost use Rattle.ac_run.specs.Answer.{answer};
 ghost use Rattle.ac_run.specs.Feeds.{Bytes, FeedRose, TellBytes};
+ghost use Rattle.ac_run.specs.Notes.{noted};
 ghost use Rattle.ac_run.specs.Tasks.{task_of};
 ghost use Rattle.ac_run.specs.Lines.{memory_line, output_line, tries_line};
 ghost use Rattle.ac_run.specs.Refusals.{line_told, status_told};
@@ -15,6 +16,7 @@ ghost use Rattle.ac_base.specs.Writing.{TakesLine};
 use crate::answer::write_answer;
 use crate::inputs::Inputs;
 use crate::job::Job;
+use crate::notes::note_if_told;
 use crate::ready::make_ready;
 use crate::refusal::lines::tell;
 use crate::refusal::{Refusal, Refused};
@@ -22,14 +24,17 @@ use ac_base::{Feed, Sink};
 use ac_report::PageFault;
 use std::alloc::Global;
 
-// Reads the tables in their order, then the query, then the token, and writes the answer: its status, or why there is none.
+// Reads the tables in their order, then the query, then the token, and writes the answer: its status, or why there is none; and what is to be told behind it.
 fn answer_job<R: Feed, W: Sink>(
     alloc: Global,
     job: &Job,
     inputs: &mut Inputs<R>,
     out: &mut W,
+    note: &mut Vec<u8>,
 ) -> Result<u8, Refused>
     ensures few { IfOk result (λ status. status ≤ 1) }
+    ensures note { IfOk result (λ _. (b : Bytes) → TellBytes R.remaining inputs.old b
+        → note.new.items ≡ noted (task_of job.now) b) }
     ensures ok { IfOk result (λ status. (b : Bytes) → TellBytes R.remaining inputs.old b
         → IsWritten (answer (task_of job.now) b) (W.taken out.old) (W.taken out.new) status) }
     ensures fault { IfErr result (λ told. Ends R.remaining R.failures (task_of job.now).detail
@@ -39,6 +44,10 @@ fn answer_job<R: Feed, W: Sink>(
     ensures failures { W.failures out.old ≤ W.failures out.new }
 {
     let ready = make_ready(alloc, job, inputs)?;
+    let Ok(told) = note_if_told(alloc, job.detail.is_some(), &ready.cloud, &ready.wanted) else {
+        return Err(Refused::of(alloc, Refusal::NoMemory));
+    };
+    *note = told;
     match write_answer(alloc, &ready.cloud, &ready.wanted, job.tries, out) {
         Ok(status) => Ok(status),
         Err(PageFault::WriteFailed) => Err(Refused::of(alloc, Refusal::Output)),
@@ -47,7 +56,8 @@ fn answer_job<R: Feed, W: Sink>(
     }
 }
 
-/// Runs a job: reads the tables in their order, then the query, then the token, and writes the answer. Answers the status.
+/// Runs a job: reads the tables in their order, then the query, then the token, and writes the answer. Answers the status, and in `note` what is to be told
+/// behind an answer, once it is handed on: where the service may answer otherwise.
 ///
 /// 0: written; 1: the verdict is no candidate, or there is none to explain; 3: a table or its reading refused; 4: the query refused; 5: the token
 /// refused; 6: the output failed; 7: want of memory; 8: the search made as many tries as it may. With 3 to 8 a line on the error sink says so.
@@ -57,6 +67,7 @@ pub fn run<R: Feed, W: Sink, E: Sink>(
     inputs: &mut Inputs<R>,
     out: &mut W,
     err: &mut E,
+    note: &mut Vec<u8>,
 ) -> u8
     // Where memory and tries suffice and no device fails: exactly the answer.
     ensures answered { result ≢ 7 → result ≢ 8
@@ -99,10 +110,12 @@ pub fn run<R: Feed, W: Sink, E: Sink>(
         → TakesPart (W.taken out.old) (W.taken out.new) (answer (task_of job.now) b).output }
     ensures status { Contains (0 ∷ 1 ∷ 3 ∷ 4 ∷ 5 ∷ 6 ∷ 7 ∷ 8 ∷ []) result }
     ensures silent { result ≤ 1 → err.new ≡ err.old }
+    ensures note { result ≤ 1 → (b : Bytes) → TellBytes R.remaining inputs.old b
+        → note.new.items ≡ noted (task_of job.now) b }
     ensures failures { W.failures out.old ≤ W.failures out.new }
     ensures err_failures { E.failures err.old ≤ E.failures err.new }
 {
-    match answer_job(alloc, job, inputs, out) {
+    match answer_job(alloc, job, inputs, out, note) {
         Ok(status) => status,
         Err(refused) => tell(err, &refused),
     }
