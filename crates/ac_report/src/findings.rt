@@ -8,7 +8,9 @@ mod lacks;
 mod question;
 mod why_rows;
 
-pub use explanation::{FoundWithout, Told, explanation_status, find_without, has_candidate};
+pub use explanation::{
+    FoundWithout, Told, differences_text, explanation_status, find_without, has_candidate,
+};
 pub use host_rows::{hosts_status, hosts_text};
 pub use host_sums::sums_text;
 pub use question::Question;

@@ -27,8 +27,8 @@ use ac_base::{NoMemory, Sink};
 use ac_find::{Lack, all_slots, broken_detail, find_lacks, tree_counts};
 use ac_query::{Query, Token};
 use ac_report::findings::{
-    Question, Told, explanation_status, find_without, has_candidate, hosts_status, hosts_text,
-    root_place, sums_text, why_at,
+    Question, Told, differences_text, explanation_status, find_without, has_candidate,
+    hosts_status, hosts_text, root_place, sums_text, why_at,
 };
 use ac_report::{PageFault, write_list, write_shown_page, write_tokens};
 use ac_rules::{Assignment, InCloud, Rule, Verdict, verify};
@@ -240,12 +240,14 @@ fn write_explanation<W: Sink>(
     let trees = tree_counts(alloc, cloud, query)?;
     let found = has_candidate(alloc, cloud, query, &trees, tries)?;
     let without = find_without(alloc, cloud, question, &trees, found, tries)?;
+    let differences = differences_text(alloc, cloud, query, found)?;
     let told = Told {
         cloud,
         query,
         slots: &slots,
         trees: &trees,
         found,
+        differences: &differences,
     };
     told.push_counts(out)?;
     told.push_reasons(out, &without)?;

@@ -15,7 +15,7 @@ pub(crate) fn note_to(alloc: Global, cloud: &Cloud, wanted: &Wanted) -> Result<V
 {
     match wanted {
         Wanted::Lines(query, _) | Wanted::Fill(query, _) | Wanted::Hosts(query, _, _) => {
-            differences_text(alloc, cloud, query)
+            differences_text(alloc, cloud, query, true)
         }
         _ => Ok(Vec::new(alloc)),
     }

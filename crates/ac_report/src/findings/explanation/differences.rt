@@ -1,15 +1,14 @@
-//! Where the running service may answer otherwise, told without memory: a line for each difference that may show.
-ghost use Rattle.std.specs.Prelude.{◌≡◌, if◌then◌else◌, []};
+//! Where the running service may answer otherwise: a line for each difference that may show.
+ghost use Rattle.std.specs.Prelude.{◌≡◌, ◌++◌, IfOk, OnOk};
 ghost use Rattle.ac_cloud.specs.Cloud.CloudWorld.{providers_of};
 ghost use Rattle.ac_query.specs.Shown.Queries.{asked_of};
 ghost use Rattle.ac_report.specs.Findings.Explanation.Differing.{adds, differs_line, differs_lines, heading, may_show};
-ghost use Rattle.ac_base.specs.Writing.{Pushes};
 
-use ac_base::pieces::push_pieces;
-use ac_base::{Sink, WriteFailed};
+use ac_base::NoMemory;
 use ac_cloud::Cloud;
 use ac_differences::{Difference, all_differences, applies};
 use ac_query::Query;
+use std::alloc::{AllocError, Global};
 
 // The heading of docs/DIFFERENCES.md that a difference stands under.
 #[tactic(auto, unfolding(crate::specs::Findings::Explanation::Differing::heading))]
@@ -33,19 +32,14 @@ fn heading(difference: Difference) -> &'static [u8]
     }
 }
 
-// The line of a difference.
+// Adds the line of a difference.
 #[tactic(auto, unfolding(crate::specs::Findings::Explanation::Differing::differs_line))]
-fn push_line<W: Sink>(out: &mut W, difference: Difference) -> Result<(), WriteFailed>
-    ensures { Pushes W.taken W.failures out.old out.new result (differs_line difference) }
+fn add_line(text: &mut Vec<u8>, difference: Difference) -> Result<(), AllocError>
+    ensures { OnOk result (text.new.items ≡ text.old.items ++ differs_line difference) }
 {
-    push_pieces(
-        out,
-        &[
-            b"differs: ",
-            heading(difference),
-            b" (docs/DIFFERENCES.md)\n",
-        ],
-    )
+    text.extend_from_slice(b"differs: ")?;
+    text.extend_from_slice(heading(difference))?;
+    text.extend_from_slice(b" (docs/DIFFERENCES.md)\n")
 }
 
 // Whether a difference adds candidates, or refuses the query. All others take away.
@@ -66,36 +60,21 @@ fn may_show(cloud: &Cloud, query: &Query, found: bool, difference: Difference) -
     (found || adds(difference)) && applies(cloud, query, difference)
 }
 
-// The line of a difference, if this may show.
-fn push_if_shown<W: Sink>(
-    out: &mut W,
+/// A line for each difference that may show in what the service answers to a query over a cloud, by whether there is a candidate.
+pub fn differences_text(
+    alloc: Global,
     cloud: &Cloud,
     query: &Query,
     found: bool,
-    difference: Difference,
-) -> Result<(), WriteFailed>
-    ensures { Pushes W.taken W.failures out.old out.new result
-        (if may_show (providers_of cloud.now) (asked_of query.now) found difference
-        then differs_line difference else []) }
+) -> Result<Vec<u8>, NoMemory>
+    ensures { IfOk result (λ text. text.items
+        ≡ differs_lines (providers_of cloud.now) (asked_of query.now) found) }
 {
-    if may_show(cloud, query, found, difference) {
-        push_line(out, difference)?;
-    }
-    Ok(())
-}
-
-/// Pushes a line for each difference that may show in what the service answers to a query over a cloud, by whether there is a candidate.
-pub(crate) fn push_differences<W: Sink>(
-    out: &mut W,
-    cloud: &Cloud,
-    query: &Query,
-    found: bool,
-) -> Result<(), WriteFailed>
-    ensures { Pushes W.taken W.failures out.old out.new result
-        (differs_lines (providers_of cloud.now) (asked_of query.now) found) }
-{
+    let mut text = Vec::new(alloc);
     for difference in all_differences() {
-        push_if_shown(out, cloud, query, found, *difference)?;
+        if may_show(cloud, query, found, *difference) {
+            add_line(&mut text, *difference)?;
+        }
     }
-    Ok(())
+    Ok(text)
 }
