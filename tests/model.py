@@ -226,7 +226,7 @@ def explanation(found, query, cloud):
     if not found:
         told += [f'{name}: {"some" if has_candidate(other, cloud) else "none"}' for name, other in without(query)]
         told.append(f'because {reason(query, cloud, taken, whole, held)}')
-    told += [difference_line(words) for words, concerns in zip(headings(), concerned(query, cloud), strict=True) if concerns and (found or words in ADDING)]
+    told += difference_lines(found, query, cloud)
     return ''.join(line + '\n' for line in told)
 
 
@@ -305,6 +305,11 @@ ADDING = 'the tree of a group without resources', 'when a policy is needed'
 
 def difference_line(words):
     return f'differs: {words} (docs/DIFFERENCES.md)'
+
+
+def difference_lines(found, query, cloud):
+    """Those that may show, by whether there is a candidate."""
+    return [difference_line(words) for words, concerns in zip(headings(), concerned(query, cloud), strict=True) if concerns and (found or words in ADDING)]
 
 
 def meets_rules(aggregates, group):
@@ -751,6 +756,10 @@ def asked(name, chance, cloud, query, every, judged):
     yield Case(f'{name}: fill, in sum', ['fill', '--sum', text + limit, *version], sum_text(len(placed), most, short), status=0 if placed else 1, tables=made)
     yield Case(f'{name}: explain', ['explain', text, *version], full(explanation(found, query, cloud)), status=0 if found else 1, tables=made)
     yield Case(f'{name}: hosts', ['hosts', text, *version], full(host_rows(found, query, cloud)), status=0 if found else 1, tables=made)
+    noted = ''.join(line + '\n' for line in difference_lines(True, query, cloud))
+    yield Case(f'{name}: tokens, in detail', ['tokens', '--detail', text, *version], lines(*map(names, found)), noted, tables=made)
+    yield Case(f'{name}: hosts, in detail', ['hosts', '--detail', text, *version], full(host_rows(found, query, cloud)), noted, 0 if found else 1, made)
+    yield Case(f'{name}: fill, in detail', ['fill', '--detail', '--sum', text, *version], sum_text(len(placed), most, short), noted, 0 if placed else 1, made)
     yield Case(f'{name}: hosts, in sum', ['hosts', '--sum', text, *version], host_sums(found, query, cloud), status=0 if found else 1, tables=made)
     yield Case(f'{name}: why', ['why', text, full(host.name), *version], full(why), status=0 if why.endswith(',fits\n') else 1, tables=made)
     yield Case(f'{name}: verify', ['verify', text, full(names(every[one])), *version], line, status=1 if rule else 0, tables=made)
