@@ -16,7 +16,6 @@ ghost use Rattle.ac_base.specs.Writing.{TakesLine};
 use crate::answer::write_answer;
 use crate::inputs::Inputs;
 use crate::job::Job;
-use crate::notes::note_if_told;
 use crate::ready::make_ready;
 use crate::refusal::lines::tell;
 use crate::refusal::{Refusal, Refused};
@@ -24,19 +23,18 @@ use ac_base::{Feed, Sink};
 use ac_report::PageFault;
 use std::alloc::Global;
 
-// Reads the tables in their order, then the query, then the token, and writes the answer: its status, or why there is none; and what is to be told behind it.
+// Reads the tables in their order, then the query, then the token, and writes the answer: its status and what is to be told behind it, or why there is none.
 fn answer_job<R: Feed, W: Sink>(
     alloc: Global,
     job: &Job,
     inputs: &mut Inputs<R>,
     out: &mut W,
-    note: &mut Vec<u8>,
-) -> Result<u8, Refused>
-    ensures few { IfOk result (λ status. status ≤ 1) }
-    ensures note { IfOk result (λ _. (b : Bytes) → TellBytes R.remaining inputs.old b
-        → note.new.items ≡ noted (task_of job.now) b) }
-    ensures ok { IfOk result (λ status. (b : Bytes) → TellBytes R.remaining inputs.old b
-        → IsWritten (answer (task_of job.now) b) (W.taken out.old) (W.taken out.new) status) }
+) -> Result<(u8, Vec<u8>), Refused>
+    ensures few { IfOk result (λ answered. answered.0 ≤ 1) }
+    ensures note { IfOk result (λ answered. (b : Bytes) → TellBytes R.remaining inputs.old b
+        → answered.1.items ≡ noted (task_of job.now) b) }
+    ensures ok { IfOk result (λ answered. (b : Bytes) → TellBytes R.remaining inputs.old b
+        → IsWritten (answer (task_of job.now) b) (W.taken out.old) (W.taken out.new) answered.0) }
     ensures fault { IfErr result (λ told. Ends R.remaining R.failures (task_of job.now).detail
         (answer (task_of job.now)) (TaskMayStop (task_of job.now)) inputs.old inputs.new
         (line_told told) (status_told told) (out.new ≡ out.old)
@@ -44,12 +42,8 @@ fn answer_job<R: Feed, W: Sink>(
     ensures failures { W.failures out.old ≤ W.failures out.new }
 {
     let ready = make_ready(alloc, job, inputs)?;
-    let Ok(told) = note_if_told(alloc, job.detail.is_some(), &ready.cloud, &ready.wanted) else {
-        return Err(Refused::of(alloc, Refusal::NoMemory));
-    };
-    *note = told;
     match write_answer(alloc, &ready.cloud, &ready.wanted, job.tries, out) {
-        Ok(status) => Ok(status),
+        Ok(status) => Ok((status, ready.note)),
         Err(PageFault::WriteFailed) => Err(Refused::of(alloc, Refusal::Output)),
         Err(PageFault::NoMemory) => Err(Refused::of(alloc, Refusal::NoMemory)),
         Err(PageFault::TooManyTries) => Err(Refused::of(alloc, Refusal::TooManyTries)),
@@ -115,8 +109,11 @@ pub fn run<R: Feed, W: Sink, E: Sink>(
     ensures failures { W.failures out.old ≤ W.failures out.new }
     ensures err_failures { E.failures err.old ≤ E.failures err.new }
 {
-    match answer_job(alloc, job, inputs, out, note) {
-        Ok(status) => status,
+    match answer_job(alloc, job, inputs, out) {
+        Ok((status, told)) => {
+            *note = told;
+            status
+        }
         Err(refused) => tell(err, &refused),
     }
 }

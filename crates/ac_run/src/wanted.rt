@@ -177,7 +177,7 @@ pub fn read_wanted(alloc: Global, job: &Job, cloud: &Cloud) -> Result<Wanted, As
         Command::Check => Ok(Wanted::Counts),
         _ => {
             let query = read_query(alloc, job.query, job.version)?;
-            wanted_of(alloc, job, cloud, query)
+            Ok(wanted_of(alloc, job, cloud, query)?)
         }
     }
 }
