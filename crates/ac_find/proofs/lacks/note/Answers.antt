@@ -10,6 +10,6 @@ loop-r-preserved c =
     let is = c.or.ensures ∙ ap (option_or (slice_index_or c.loop-r.lacks c.loop-r.r None)) c.lack_behind.ensures in
     record {
       count = length-set c.loop-r.lacks c.loop-r.r c.or.result ∙ c.loop-r.invariant.count;
-      done = noted_more c.args.lacks.now c.loop-r.lacks c.args.slot c.args.passed.now c.loop-r.r c.or.result low is c.loop-r.invariant.done c.loop-r.invariant.same;
+      done = noted_more c.args.lacks.now c.loop-r.lacks c.args.slot c.args.ranks.now c.loop-r.r c.or.result low is c.loop-r.invariant.done c.loop-r.invariant.same;
       same = λ r h. get_or-set_other c.loop-r.lacks c.loop-r.r r c.or.result None (λ e. omega (arith, h, e)) ∙ c.loop-r.invariant.same r (omega (arith, h));
     }

@@ -5,16 +5,17 @@ use Rattle.ac_cloud.specs.World.{is_available_at}
 use Rattle.ac_cloud.specs.Cloud.CloudWorld.{providers_of, root_lists_of}
 use Rattle.ac_rules.specs.Placed.{slot_at}
 use Rattle.ac_find.specs.Explained.{in_slot}
-use Rattle.ac_find.specs.Shown.Lacking.{is_listed, passes}
-use Rattle.ac_find.proofs.lacks.passed.reach_lists.Given as goal
+use Rattle.ac_find.specs.Shown.Furthest.{rank}
+use Rattle.ac_find.specs.Shown.Lacking.{is_listed}
+use Rattle.ac_find.proofs.lacks.ranks.rank_lists.Given as goal
 
 abbrev pub invariant-loop-ix : goal.invariant-loop-ix
 invariant-loop-ix l =
     let all = providers_of l.cloud in
     let slot = slot_at (asked_of l.query) l.s in
     record {
-      count : length l.passed ≡ length all;
-      lists : length l.reached.items ≡ length (root_lists_of l.cloud);
-      reached : (k r : ℕ) → k < 6 → r < length all
-          → (nat_lt k (slice_index l.passed r) || is_listed k (root_lists_of l.cloud) l.reached.items r) ≡ list_any (λ p. passes k all (in_slot slot p)) (filter (λ p. is_available_at all p r) (range_with_len 0 l.ix));
+      count : length l.ranks ≡ length all;
+      lists : length l.listed.items ≡ length (root_lists_of l.cloud);
+      reached : (k r : ℕ) → r < length all
+          → (nat_lt k (slice_index l.ranks r) || is_listed k (root_lists_of l.cloud) l.listed.items r) ≡ list_any (λ p. nat_lt k (rank all (in_slot slot p))) (filter (λ p. is_available_at all p r) (range_with_len 0 l.ix));
     }
