@@ -50,13 +50,6 @@ module _ (all : List Provider) (asked : Asked) (slots : List rust.SlotTold) (s :
       sym (get_or-map slot_shown slots s d (slot_shown d) h)
       ∙ (ap (λ told. get_or told s (slot_shown d)) are ∙ get_or-map (slot_told all) (slots_of asked) s no_slot (slot_shown d) told_low)
 
--- no more rooms than classes
-pub rooms_few : (all : List Provider) (slot : Slot) → length (slot_told all slot).rooms ≤ length slot.needs
-rooms_few all slot = elim (cases_Bool (is_short all slot)) [
-  | inl e ↦ rw e (omega (arith, length-map slot.needs (class_room all slot)))
-  | inr e ↦ rw e (omega arith)
-]
-
 -- ---- the first slot that no provider serves
 
 places_mapped : {X Y : Type 0} (test : Y → Bool) (e : X → Y) (xs : List X) → position_or_len test (map e xs) ≡ position_or_len (λ x. test (e x)) xs

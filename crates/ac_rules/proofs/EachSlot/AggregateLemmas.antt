@@ -1,6 +1,6 @@
 -- Rules on aggregates: those that forbid, asked at once, and the others one by one.
 use Rattle.std.proofs.lemmas.Grind.{common_steps}
-use Rattle.std.proofs.Common.{◌≡◌, ◌∙◌, arith, ap, ap₂, refl, Bool, true, false, not, ◌&&◌, ◌||◌, List, [], ◌∷◌, if◌then◌else◌}
+use Rattle.std.proofs.Common.{◌≡◌, ◌∙◌, arith, ap, refl, Bool, true, false, not, ◌&&◌, ◌||◌, List, [], ◌∷◌, if◌then◌else◌}
 use Rattle.std.proofs.lemmas.Bool.{cases_Bool}
 use Rattle.std.specs.List.{list_all, list_any}
 use Rattle.std.specs.Option.{is_none}
@@ -11,8 +11,8 @@ use Rattle.ac_rules.specs.Placed.{Placed}
 use Rattle.ac_rules.specs.Own.{counts_in, meets_rule}
 use Rattle.ac_rules.proofs.EachSlot.TraitLemmas.{counted_either}
 
-either_way : (forbids counts all none : Bool) → ((if forbids then not counts else counts) && not none && all) ≡ (not ((forbids && counts) || none) && (forbids || counts) && all)
-either_way forbids counts all none = grind (arith, common_steps, cases_Bool)
+either_way : (forbids counts none all : Bool) → ((if forbids then not counts else counts) && (not none && all)) ≡ (not ((forbids && counts) || none) && ((forbids || counts) && all))
+either_way forbids counts none all = grind (arith, common_steps, cases_Bool)
 
 -- rules are met where none that forbids counts, and each other one does
 pub rules_met : (all : List Provider) (x : Placed) (rules : List AggregateRule) → list_all (λ rule. meets_rule all x rule) rules
@@ -42,6 +42,6 @@ forbidden_either all x rules =
     let own : AggregateRule → Bool = λ rule. rule.forbids && list_any (is_member p) rule.ids in
     let of_root : AggregateRule → Bool = λ rule. rule.forbids && list_any (is_member (root_provider all p)) rule.ids in
     any_same _ (λ rule. own rule || (is_none x.slot.suffix && of_root rule))
-        (λ rule. ap (λ b. rule.forbids && b) (counted_either all x rule.ids) ∙ of_rule rule.forbids (is_none x.slot.suffix) _ _) rules
+    (λ rule. ap (λ b. rule.forbids && b) (counted_either all x rule.ids) ∙ of_rule rule.forbids (is_none x.slot.suffix) _ _) rules
     ∙ any_or own (λ rule. is_none x.slot.suffix && of_root rule) rules
     ∙ ap (λ b. list_any own rules || b) (and_any (is_none x.slot.suffix) of_root rules)

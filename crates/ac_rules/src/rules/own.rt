@@ -83,17 +83,24 @@ impl<'a> Placed<'a> {
         self.counts_in_any(rule) != rule.forbids()
     }
 
-    // Whether an aggregate that a rule of its group forbids counts as the provider's.
+    // Whether its group forbids an aggregate that is a provider's own.
+    fn forbids_one_of(&self, provider: &Provider) -> bool
+        ensures { result ≡ list_any
+            (λ rule. rule.forbids && list_any (is_member (provider_of provider.now)) rule.ids)
+            (placed_of self.now).slot.group.member_of }
+    {
+        self.group().forbids_any(provider.aggregates())
+    }
+
+    // Whether an aggregate that its group forbids counts as the provider's.
     fn is_in_forbidden(&self) -> bool
         ensures { result ≡ list_any (λ rule. rule.forbids && list_any
             (λ a. counts_in (providers_of self.now.cloud.now) (placed_of self.now) a) rule.ids)
             (placed_of self.now).slot.group.member_of }
     {
-        let group = self.group();
         let provider = self.its_provider();
-        group.forbids_any(provider.aggregates())
-            || (!is_suffixed(self.query, self.slot)
-                && group.forbids_any(provider.root().aggregates()))
+        self.forbids_one_of(&provider)
+            || (!is_suffixed(self.query, self.slot) && self.forbids_one_of(&provider.root()))
     }
 
     /// Aggregates: whether each rule of the slot's group is met. Those that forbid are asked at once.
