@@ -17,7 +17,7 @@ use Rattle.ac_prune.specs.Trees.Keys.{is_there}
 use Rattle.ac_find.specs.Explained.{holds_required}
 use Rattle.ac_prune.specs.Fitting.{fits_at}
 use Rattle.ac_find.specs.Lacking.{first_lack, first_unserved, lack_at, unreached}
-use Rattle.ac_find.specs.Shown.Furthest.{AreRanked}
+use Rattle.ac_find.specs.Shown.Furthest.{AreRanked, AreSmall}
 use Rattle.ac_find.specs.Shown.Lacking.{AreNoted, is_listed, lack_behind, stage_behind, tests_in, unserved}
 use Rattle.ac_find.specs.declared.lacks.Lack.{Lack}
 use Rattle.ac_find.specs.declared.lacks.Lack.TheVariants as lack
@@ -27,7 +27,7 @@ use Rattle.ac_prune.proofs.Search.OpenLemmas.{choice_more, range_with_len_more}
 
 -- ---- One more provider
 
-there_passes : (f : ℕ → Bool) (zs : List ℕ) (r : ℕ) → f r ≡ false → is_there (filter f zs) r ≡ false
+pub there_passes : (f : ℕ → Bool) (zs : List ℕ) (r : ℕ) → f r ≡ false → is_there (filter f zs) r ≡ false
 there_passes f [] r fails = refl
 there_passes f (z ∷ zs) r fails = grind (arith, nat_tests, there_passes f zs r fails)
 
@@ -128,10 +128,10 @@ or_behind a l x = grind arith
 -- ---- One more slot
 
 -- how many tests are passed says which is the first that isn't
-pub behind_reached : (all : List Provider) (slot : Slot) (ranks : List ℕ) (r : ℕ) → r < length all → AreRanked all slot ranks
+pub behind_reached : (all : List Provider) (slot : Slot) (ranks : List ℕ) (r : ℕ) → r < length all → AreSmall all slot (length all) → AreRanked all slot ranks
     → stage_behind (tests_in (slice_index ranks r)) ≡ unreached all r slot
-behind_reached all slot ranks r low are =
-    let reached = λ (k : ℕ) (few : k < 6). tests_reached all slot (hosts_of all r) (slice_index ranks r) (λ k. are k r low) k few in
+behind_reached all slot ranks r low small are =
+    let reached = λ (k : ℕ) (few : k < 6). tests_reached all slot r (slice_index ranks r) small (λ k. are k r low) k few in
     rw (reached 0 (omega arith), reached 1 (omega arith), reached 2 (omega arith), reached 3 (omega arith), reached 4 (omega arith), reached 5 (omega arith)) refl
 
 or_or : (a b c : Option Lack) → option_or (option_or a b) c ≡ option_or a (option_or b c)
@@ -159,8 +159,8 @@ next_first all r number (slot ∷ ss) (suc s) h =
 
 -- at each root
 pub slot_noted : (all : List Provider) (ss : List Slot) (s : ℕ) (ranks : List ℕ) (old new : List (Option Lack)) → s < length ss → old ≡ unserved all (take s ss) → length new ≡ length old
-    → AreRanked all (slice_index_or ss s no_slot) ranks → AreNoted old (s + 1) ranks new → new ≡ unserved all (take (s + 1) ss)
-slot_noted all ss s ranks old new h was size reached noted =
+    → AreSmall all (slice_index_or ss s no_slot) (length all) → AreRanked all (slice_index_or ss s no_slot) ranks → AreNoted old (s + 1) ranks new → new ≡ unserved all (take (s + 1) ss)
+slot_noted all ss s ranks old new h was size small reached noted =
     let n = length all in
     let before = λ (r : ℕ). first_unserved all r 1 (take s ss) in
     let after = λ (r : ℕ). first_unserved all r 1 (take (s + 1) ss) in
@@ -169,20 +169,17 @@ slot_noted all ss s ranks old new h was size reached noted =
     fill_by_all after new n None (size ∙ many) (λ r low.
     let here : slice_index_or old r None ≡ before r = ap (λ (xs : List (Option Lack)). slice_index_or xs r None) was ∙ get_or-map-range_with_len before 0 n r r None low (omega arith) in
     let behind : lack_behind (s + 1) (tests_in (slice_index ranks r)) ≡ option_map (λ stage. lack.Slot (1 + s) stage) (unreached all r (slice_index_or ss s no_slot)) =
-    ap₂ (λ (n : ℕ) o. option_map (λ stage. lack.Slot n stage) o) number (behind_reached all (slice_index_or ss s no_slot) ranks r low reached) in
+    ap₂ (λ (n : ℕ) o. option_map (λ stage. lack.Slot n stage) o) number (behind_reached all (slice_index_or ss s no_slot) ranks r low small reached) in
     noted r (omega (arith, many, low)) ∙ (ap₂ option_or here behind ∙ (sym (next_first all r 1 ss s h) ∙ ap (λ (n : ℕ). first_unserved all r 1 (take n ss)) (sym (add-one s)))))
 
 -- one more root
-pub noted_more : (old now : List (Option Lack)) (number : ℕ) (ranks : List ℕ) (i : ℕ) (lacks : Option Lack) → i < length now
-    → lacks ≡ option_or (slice_index_or now i None) (lack_behind number (tests_in (slice_index ranks i)))
-    → ((r : ℕ) → r < i → slice_index_or now r None ≡ option_or (slice_index_or old r None) (lack_behind number (tests_in (slice_index ranks r))))
-    → ((r : ℕ) → i ≤ r → slice_index_or now r None ≡ slice_index_or old r None)
-    → (r : ℕ) → r < i + 1 → slice_index_or (slice_set now i lacks) r None ≡ option_or (slice_index_or old r None) (lack_behind number (tests_in (slice_index ranks r)))
-noted_more old now number ranks i lacks low is done same r h = elim (cases_lt r i) [
-  | inl before ↦ get_or-set_other now i r lacks None (λ e. omega (arith, before, e)) ∙ done r before
+pub set_more : {X : Type 0} (f : ℕ → X) (now : List X) (i : ℕ) (x d : X) → i < length now → x ≡ f i → ((r : ℕ) → r < i → slice_index_or now r d ≡ f r)
+    → (r : ℕ) → r < i + 1 → slice_index_or (slice_set now i x) r d ≡ f r
+set_more f now i x d low is done r h = elim (cases_lt r i) [
+  | inl before ↦ get_or-set_other now i r x d (λ e. omega (arith, before, e)) ∙ done r before
   | inr behind ↦
       let here : r ≡ i = omega (arith, h, behind) in
-      rw here (get_or-set_same now i lacks None low ∙ (is ∙ ap (λ (o : Option Lack). option_or o (lack_behind number (tests_in (slice_index ranks i)))) (same i (omega arith))))
+      rw here (get_or-set_same now i x d low ∙ is)
 ]
 
 -- ---- What a root lacks

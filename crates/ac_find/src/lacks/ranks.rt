@@ -9,8 +9,8 @@ ghost use Rattle.ac_query.specs.Shown.Queries.{asked_of};
 ghost use Rattle.ac_rules.specs.Placed.{slot_at};
 ghost use Rattle.ac_rules.specs.Shown.Assignments.{placed_of};
 ghost use Rattle.ac_prune.specs.Trees.Keys.{is_there};
-ghost use Rattle.ac_find.specs.Furthest.{left_where};
-ghost use Rattle.ac_find.specs.Shown.Furthest.{AreRanked, AreRankedBeside, place_in, rank, ranked};
+ghost use Rattle.ac_find.specs.Furthest.{left_where, short_left};
+ghost use Rattle.ac_find.specs.Shown.Furthest.{AreRanked, AreRankedBeside, AreSmall, place_in, rank, ranked};
 ghost use Rattle.ac_find.specs.Shown.Lacking.{is_listed, tests_in};
 
 use crate::counts::count_met;
@@ -47,7 +47,9 @@ fn ranked(met: u32, left: u64, place: u32) -> u128
 
 // How far a provider comes: a greater number comes further, or as far at an earlier place.
 fn rank(placed: &Placed) -> u128
-    ensures { result ≡ rank (providers_of placed.now.cloud.now) (placed_of placed.now) }
+    ensures rank { result ≡ rank (providers_of placed.now.cloud.now) (placed_of placed.now) }
+    ensures small { short_left (providers_of placed.now.cloud.now) (placed_of placed.now)
+        < 18446744073709551616 }
 {
     let met = count_met(placed);
     ranked(met, left_where(placed, met), placed.provider)
@@ -109,6 +111,8 @@ fn rank_lists(
     requires none { (r : ℕ) → slice_index ranks.old r ≡ 0 }
     ensures count { IfOk result (λ listed.
         length listed.items ≡ length (root_lists_of cloud.now)) }
+    ensures small { IfOk result (λ _. AreSmall (providers_of cloud.now)
+        (slot_at (asked_of query.now) s) (length (providers_of cloud.now))) }
     ensures ranks { IfOk result (λ listed. AreRankedBeside (providers_of cloud.now)
         (slot_at (asked_of query.now) s) (root_lists_of cloud.now) listed.items ranks.new) }
 {
@@ -139,6 +143,8 @@ pub(crate) fn rank_roots(
 ) -> Result<Vec<u128>, NoMemory>
     requires { s < length (slots_of (asked_of query.now)) }
     ensures count { IfOk result (λ ranks. length ranks.items ≡ length (providers_of cloud.now)) }
+    ensures small { IfOk result (λ _. AreSmall (providers_of cloud.now)
+        (slot_at (asked_of query.now) s) (length (providers_of cloud.now))) }
     ensures ranks { IfOk result (λ ranks. AreRanked (providers_of cloud.now)
         (slot_at (asked_of query.now) s) ranks.items) }
 {

@@ -37,5 +37,5 @@ loop-s-preserved c =
     let items = with_items_is c.loop-s.lacks c.note.new.lacks (c.note.auto.lacks ∙ omega (arith, were, c.loop-s.lacks.ok)) in
     items
     ∙ slot_noted all (slots_of (asked_of c.args.query.now)) c.loop-s.s c.in_ok-ranks.ranks.items c.loop-s.lacks.items c.note.new.lacks
-    (omega (arith, c.loop-s-test.true, c.count_slots-s-end.ensures.count)) c.loop-s.invariant (c.note.auto.lacks ∙ were) c.in_ok-ranks.ensures.ranks
+    (omega (arith, c.loop-s-test.true, c.count_slots-s-end.ensures.count)) c.loop-s.invariant (c.note.auto.lacks ∙ were) c.in_ok-ranks.ensures.small c.in_ok-ranks.ensures.ranks
     (rw (c.deref_mut.ensures.value, c.deref.ensures.value) at c.note.ensures)
