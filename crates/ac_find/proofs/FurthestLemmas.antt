@@ -1,7 +1,7 @@
 -- Who comes furthest, by the greatest number.
-use Rattle.std.proofs.Common.{inl, inr, ◌≡◌, ◌∙◌, ◌<◌, ◌≤◌, ℕ, zero, suc, ◌+◌, ◌-◌, ◌*◌, ◌%◌, Bool, true, false, not, ◌&&◌, ◌||◌, ◌==◌, List, [], ◌∷◌, ◌++◌, length, map, nat_le, nat_lt, find, filter, slice_index, slice_index_or, Option, Some, None, refl, sym, subst, ap, ap₂, arith, lt-ltb, le-ltb, ltb-true, ltb-false, eq-eqb, le-leb, ne_eqb, if◌then◌else◌}
+use Rattle.std.proofs.Common.{inl, inr, ◌≡◌, ◌∙◌, ◌<◌, ◌≤◌, ℕ, zero, suc, ◌+◌, ◌-◌, ◌*◌, ◌%◌, Bool, true, false, not, ◌&&◌, ◌||◌, ◌==◌, List, [], ◌∷◌, ◌++◌, length, nat_le, nat_lt, find, filter, get_or, Option, Some, None, refl, sym, ap, arith, lt-ltb, le-ltb, ltb-true, ltb-false, eq-eqb, le-leb, ne_eqb, if◌then◌else◌}
 use Rattle.std.specs.List.{list_any, range_with_len, AllByRecursion as Each}
-use Rattle.std.specs.Option.{option_map, option_or}
+use Rattle.std.specs.Option.{is_some, option_map, option_or, unwrap_or}
 use Rattle.std.proofs.lemmas.Bool.{cases_Bool, cases_eq, cases_lt, false≢true, or_left, or_right}
 use Rattle.std.proofs.lemmas.Bool.Decides.{nat_tests}
 use Rattle.std.proofs.lemmas.Nat.{mod-mul-add}
@@ -15,17 +15,18 @@ use Rattle.ac_prune.specs.Trees.Keys.{is_there}
 use Rattle.ac_prune.proofs.Roots.RootLemmas.{hosts_low}
 use Rattle.ac_prune.proofs.Search.OpenLemmas.{range_with_len_more}
 use Rattle.ac_prune.proofs.Roots.TreeLemmas.{among_there, any_found, any_there, each_there}
-use Rattle.ac_rules.proofs.Elements.{among_filter}
+use Rattle.ac_rules.proofs.Elements.{among_filter, each_weaker}
+use Rattle.ac_rules.proofs.EachSlot.AnchorLemmas.{each_range}
 use Rattle.ac_rules.proofs.Lists.ListLemmas.{among_range}
 use Rattle.ac_find.specs.Explained.{holds_required, in_slot}
-use Rattle.ac_find.specs.Furthest.{count_met, furthest, is_further, is_furthest, short_left, wanting, wanting_where}
+use Rattle.ac_find.specs.Furthest.{class_of_nobody, count_met, furthest, is_further, is_furthest, short_left, wanting, wanting_where}
+use Rattle.ac_find.specs.Missing.{somebody_there_has_class}
 use Rattle.ac_find.specs.Lacking.{first_lack, first_unserved, lack_at, unreached}
 use Rattle.ac_find.specs.declared.lacks.Stage.{Stage}
 use Rattle.ac_find.specs.declared.lacks.Lack.{Lack}
 use Rattle.ac_find.specs.declared.lacks.Lack.TheVariants as lack
 use Rattle.ac_find.specs.Shown.Furthest.{AreSmall, is_of_slot, place_in, rank, ranked, wanting_below}
 use Rattle.ac_find.proofs.LackingLemmas.{there_passes}
-use Rattle.ac_find.proofs.RankLemmas.{hosts_small}
 
 le_off : (a b : ℕ) → b < a → nat_le a b ≡ false
 le_off a b h = grind (arith, nat_tests, h)
@@ -93,10 +94,6 @@ none_above key [] above h = refl
 none_above key (p ∷ ps) above h =
     let some : nat_lt 0 (key p) ≡ true = lt-ltb 0 (key p) above.0 in
     absurd (false≢true (sym h ∙ rw some refl))
-
-each_weaker : (P Q : ℕ → Type 0) (xs : List ℕ) → ((x : ℕ) → P x → Q x) → Each P xs → Each Q xs
-each_weaker P Q [] more h = tt
-each_weaker P Q (x ∷ xs) more h = (more x h.0, each_weaker P Q xs more h.1)
 
 unless_any : (f : ℕ → Bool) (ps : List ℕ) (p : ℕ) → list_any f ps ≡ false → is_there ps p ≡ true → f p ≡ false
 unless_any f ps p none there = elim (cases_Bool (f p)) [ inl h ↦ absurd (false≢true (sym none ∙ any_there f ps p there h)) | inr h ↦ h ]
@@ -272,3 +269,20 @@ module _ (all : List Provider) (asked : Asked) (r : ℕ) where
   below_all (Some lack.RequiredTraits) numbered = refl
   below_all (Some lack.Together) numbered = refl
   below_all (Some (lack.Slot slot stage)) numbered = let some = numbered slot stage refl in rw (le-leb slot (length (slots_of asked)) some.1) refl
+
+-- ---- What is found is among those that are looked at
+
+found_low : (t : ℕ → Bool) (n : ℕ) (xs : List ℕ) (x : ℕ) → Each (λ y. y < n) xs → find t xs ≡ Some x → x < n
+found_low t n [] x low h = absurd (false≢true (ap is_some h))
+found_low t n (y ∷ ys) x low h = elim (cases_Bool (t y)) [
+  | inl e ↦ let same : y ≡ x = ap (λ (o : Option ℕ). unwrap_or o y) (rw e at h) in subst (λ (z : ℕ). z < n) same low.0
+  | inr e ↦ found_low t n ys x low.1 (rw e at h)
+]
+
+pub furthest_low : (all : List Provider) (slot : Slot) (r p : ℕ) → furthest all slot r ≡ Some p → p < length all
+furthest_low all slot r p h = found_low (is_furthest all slot r) (length all) (hosts_of all r) p (hosts_low all r) h
+
+pub class_low : (all : List Provider) (r : ℕ) (needs : List (List ℕ × ℕ)) (k : ℕ) → class_of_nobody all r needs ≡ Some k → k < length needs
+class_low all r needs k h =
+    found_low (λ k. not (somebody_there_has_class all r (get_or needs k ([], 0)).0)) (length needs) (range_with_len 0 (length needs)) k
+    (each_range 0 (length needs) (length needs) (omega arith)) h

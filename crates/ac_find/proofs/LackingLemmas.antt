@@ -1,5 +1,5 @@
 -- How far the providers of a root come in a slot, and the first slot that none of them serves.
-use Rattle.std.proofs.Common.{inl, inr, ◌≡◌, ◌∙◌, ◌<◌, ◌≤◌, ℕ, zero, suc, ◌+◌, Bool, true, false, ◌&&◌, ◌||◌, ◌==◌, List, [], ◌∷◌, ◌++◌, length, map, nat_lt, get_or, replicate, slice_index, slice_index_or, slice_set, Option, Some, None, refl, sym, subst, ap, ap₂, arith, add-one}
+use Rattle.std.proofs.Common.{inl, inr, ◌≡◌, ◌∙◌, ◌<◌, ℕ, zero, suc, ◌+◌, Bool, true, false, ◌&&◌, ◌||◌, ◌==◌, List, [], ◌∷◌, ◌++◌, length, map, nat_lt, get_or, replicate, slice_index, slice_index_or, slice_set, Option, Some, None, refl, sym, subst, ap, ap₂, arith, add-one}
 use Rattle.std.specs.Prelude.{cond, take}
 use Rattle.std.specs.List.{filter, list_any, range_with_len}
 use Rattle.std.specs.Option.{option_map, option_or}

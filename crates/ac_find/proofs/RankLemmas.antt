@@ -1,13 +1,13 @@
 -- How far a provider comes, as one number.
-use Rattle.std.proofs.Common.{inl, inr, ◌≡◌, ◌∙◌, ◌<◌, ◌≤◌, ℕ, zero, suc, ◌+◌, ◌-◌, ◌*◌, ◌/◌, Bool, true, false, ◌&&◌, ◌||◌, ◌==◌, List, [], ◌∷◌, length, nat_lt, refl, sym, ap, ap₂, arith, lt-ltb, le-ltb, ltb-true, ltb-false}
+use Rattle.std.proofs.Common.{inl, inr, ◌≡◌, ◌∙◌, ◌<◌, ℕ, zero, suc, ◌+◌, ◌*◌, Bool, true, false, ◌&&◌, ◌||◌, List, [], ◌∷◌, length, nat_lt, refl, sym, ap₂, arith, lt-ltb, le-ltb}
 use Rattle.std.specs.List.{list_any, AllByRecursion as Each}
-use Rattle.std.proofs.lemmas.Bool.{cases_Bool, cases_eq, cases_lt, false≢true}
-use Rattle.std.proofs.lemmas.Bool.Decides.{nat_tests}
+use Rattle.std.proofs.lemmas.Bool.{cases_lt, false≢true}
 use Rattle.std.proofs.lemmas.Nat.{div-add-mod', mod_below}
 use Rattle.ac_query.specs.Asked.{Slot}
 use Rattle.ac_cloud.specs.World.{Provider}
 use Rattle.ac_rules.specs.Own.{units_fit, traits_fit, aggregates_fit, tree_fits}
 use Rattle.ac_rules.specs.Placed.{Placed}
+use Rattle.ac_rules.proofs.Elements.{each_weaker}
 use Rattle.ac_prune.specs.QuerySearch.{has_room_alone}
 use Rattle.ac_find.specs.Explained.{has_inventories, in_slot, meets_units, meets_traits, meets_aggregates, meets_tree, meets_room}
 use Rattle.ac_find.specs.Furthest.{count_met, short_left, tests_before}
@@ -81,13 +81,9 @@ any_alike : (f g : ℕ → Bool) (xs : List ℕ) → Each (λ x. f x ≡ g x) xs
 any_alike f g [] same = refl
 any_alike f g (x ∷ xs) same = ap₂ (λ a b. a || b) same.0 (any_alike f g xs same.1)
 
-each_where : (P Q : ℕ → Type 0) (xs : List ℕ) → ((x : ℕ) → P x → Q x) → Each P xs → Each Q xs
-each_where P Q [] more h = tt
-each_where P Q (x ∷ xs) more h = (more x h.0, each_where P Q xs more h.1)
-
 -- what is left of those that are available in the tree of a root
 pub hosts_small : (all : List Provider) (slot : Slot) (r : ℕ) → AreSmall all slot (length all) → Each (λ p. short_left all (in_slot slot p) < 18446744073709551616) (hosts_of all r)
-hosts_small all slot r small = each_where (λ p. p < length all) (λ p. short_left all (in_slot slot p) < 18446744073709551616) (hosts_of all r) small (hosts_low all r)
+hosts_small all slot r small = each_weaker (λ p. p < length all) (λ p. short_left all (in_slot slot p) < 18446744073709551616) (hosts_of all r) small (hosts_low all r)
 
 -- the greatest number of those tells as many tests as one of them passes
 pub tests_reached : (all : List Provider) (slot : Slot) (r n : ℕ) → AreSmall all slot (length all)
@@ -98,5 +94,5 @@ tests_reached all slot r n small most k few =
     tests_less k n
     ∙ (most at
     ∙ any_alike (λ p. nat_lt at (rank all (in_slot slot p))) (λ p. passes k all (in_slot slot p)) (hosts_of all r)
-    (each_where (λ p. short_left all (in_slot slot p) < 18446744073709551616) (λ p. nat_lt at (rank all (in_slot slot p)) ≡ passes k all (in_slot slot p)) (hosts_of all r)
+    (each_weaker (λ p. short_left all (in_slot slot p) < 18446744073709551616) (λ p. nat_lt at (rank all (in_slot slot p)) ≡ passes k all (in_slot slot p)) (hosts_of all r)
     (λ p h. tests_of_rank (count_met all (in_slot slot p)) (short_left all (in_slot slot p)) p k h ∙ met_passes all (in_slot slot p) k few) (hosts_small all slot r small)))

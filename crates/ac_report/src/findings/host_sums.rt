@@ -8,6 +8,7 @@ ghost use Rattle.ac_query.specs.Shown.Queries.{asked_of};
 ghost use Rattle.ac_find.specs.Lacking.{lacks_of};
 ghost use Rattle.ac_report.specs.Findings.HostSums.{count_lacks, counted, fits_row, lack_number, lacks_of_roots, lacks_of_slot, possible_lacks, rows_falling, rows_of_count, stage_number, sum_row, sums_text};
 
+use crate::findings::host_details::asks_of;
 use crate::findings::lacks::{lack_name, slot_digits};
 use ac_base::NoMemory;
 use ac_base::pieces::digits::Digits;
@@ -144,37 +145,46 @@ fn write_fits(rows: &mut Writer<Vec<u8>>, count: u32) -> Result<(), NoMemory>
     ensures { IfOk result (λ _. (before : List (List (List ℕ))) → HasRows rows.old before
         → HasRows rows.new (before ++ fits_row count ∷ [])) }
 {
-    write_row(rows, &[Digits::of(count).as_bytes(), b"", b"fits"])
+    write_row(rows, &[Digits::of(count).as_bytes(), b"", b"fits", b""])
 }
 
 // Writes the row of what so many roots lack.
-fn write_sum(rows: &mut Writer<Vec<u8>>, sum: &(Lack, u32)) -> Result<(), NoMemory>
+fn write_sum(
+    alloc: Global,
+    rows: &mut Writer<Vec<u8>>,
+    query: &Query,
+    sum: &(Lack, u32),
+) -> Result<(), NoMemory>
     ensures { IfOk result (λ _. (before : List (List (List ℕ))) → HasRows rows.old before
-        → HasRows rows.new (before ++ sum_row sum.now ∷ [])) }
+        → HasRows rows.new (before ++ sum_row (asked_of query.now) sum.now ∷ [])) }
 {
     let lacks = Some(sum.0);
+    let asks = asks_of(alloc, query, lacks)?;
     write_row(
         rows,
         &[
             Digits::of(sum.1).as_bytes(),
             slot_digits(lacks).as_bytes(),
             lack_name(lacks),
+            &asks,
         ],
     )
 }
 
 // Writes the rows of those of some things that so many roots lack.
 fn write_of_count(
+    alloc: Global,
     rows: &mut Writer<Vec<u8>>,
+    query: &Query,
     sums: &[(Lack, u32)],
     count: u32,
 ) -> Result<(), NoMemory>
     ensures { IfOk result (λ _. (before : List (List (List ℕ))) → HasRows rows.old before
-        → HasRows rows.new (before ++ rows_of_count sums.now count)) }
+        → HasRows rows.new (before ++ rows_of_count (asked_of query.now) sums.now count)) }
 {
     for sum in sums {
         if sum.1 == count {
-            write_sum(rows, sum)?;
+            write_sum(alloc, rows, query, sum)?;
         }
     }
     Ok(())
@@ -182,15 +192,17 @@ fn write_of_count(
 
 // Writes the rows of some things, from those that so many roots lack down to those that one lacks.
 fn write_falling(
+    alloc: Global,
     rows: &mut Writer<Vec<u8>>,
+    query: &Query,
     sums: &[(Lack, u32)],
     most: u32,
 ) -> Result<(), NoMemory>
     ensures { IfOk result (λ _. (before : List (List (List ℕ))) → HasRows rows.old before
-        → HasRows rows.new (before ++ rows_falling sums.now most)) }
+        → HasRows rows.new (before ++ rows_falling (asked_of query.now) sums.now most)) }
 {
     for i in 0..most {
-        write_of_count(rows, sums, most - i)?;
+        write_of_count(alloc, rows, query, sums, most - i)?;
     }
     Ok(())
 }
@@ -210,8 +222,8 @@ pub fn sums_text(
     let found = lacks_of_roots(alloc, cloud, query, lacks)?;
     let kinds = possible_lacks(alloc, count_slots(query))?;
     let sums = counted(alloc, &found, &kinds)?;
-    let mut rows = begin_rows(alloc, &[b"hosts", b"slot", b"lacks"])?;
+    let mut rows = begin_rows(alloc, &[b"hosts", b"slot", b"lacks", b"asks"])?;
     write_fits(&mut rows, count_lacks(&found, None))?;
-    write_falling(&mut rows, &sums, found.len() as u32)?;
+    write_falling(alloc, &mut rows, query, &sums, found.len() as u32)?;
     end_rows(rows)
 }

@@ -1,4 +1,4 @@
-use Rattle.std.proofs.Common.{◌≡◌, [], ℕ, List, find, get_or, length, map, not}
+use Rattle.std.proofs.Common.{◌≡◌, [], find, get_or, length, map, not}
 use Rattle.std.specs.List.{range_with_len}
 use Rattle.ac_cloud.specs.Cloud.CloudWorld.{providers_of}
 use Rattle.ac_query.specs.Shown.Groups.{need_entry}

@@ -11,7 +11,8 @@ use Rattle.ac_report.proofs.findings.host_sums.sums_text.Goals as goal
 pub returns : goal.returns
 unfolding sums_text
 returns c =
-    let found = lacks_of_roots (providers_of c.args.cloud.now) (asked_of c.args.query.now) in
+    let asked = asked_of c.args.query.now in
+    let found = lacks_of_roots (providers_of c.args.cloud.now) asked in
     let kinds = possible_lacks (length (slots_of (asked_of c.args.query.now))) in
     let found_is : c.in_ok-found.found.items ≡ found = c.in_ok-found.ensures.lacks in
     let kinds_are : c.in_ok-kinds.kinds.items ≡ kinds = c.in_ok-kinds.ensures ∙ ap possible_lacks c.count_slots.ensures.count in
@@ -20,7 +21,7 @@ returns c =
     c.deref-4.ensures.value ∙ (c.in_ok-sums.ensures ∙ ap₂ counted (c.deref.ensures.value ∙ found_is) (c.deref-2.ensures.value ∙ kinds_are)) in
     let many = ap length found_is in
     let most : c.len.result ≡ length found = omega (arith, c.len.ensures, c.in_ok-found.found.ok, many) in
-    let rows : (sum_columns ∷ fits_row c.count_lacks.result ∷ []) ++ rows_falling c.deref-4.result.now c.len.result ≡ sum_rows found kinds =
-    ap₂ (λ (first rest : List (List (List ℕ))). first ++ rest) (ap (λ n. sum_columns ∷ fits_row n ∷ []) fits) (ap₂ rows_falling sums most) in
+    let rows : (sum_columns ∷ fits_row c.count_lacks.result ∷ []) ++ rows_falling asked c.deref-4.result.now c.len.result ≡ sum_rows asked found kinds =
+    ap₂ (λ (first rest : List (List (List ℕ))). first ++ rest) (ap (λ n. sum_columns ∷ fits_row n ∷ []) fits) (ap₂ (rows_falling asked) sums most) in
     subst (λ (rows : List (List (List ℕ))). IfOk c.end_rows.result (λ text. text.items ≡ flat_map (row_text default_writer) rows)) rows
     (c.end_rows.ensures _ (c.in_ok-write_falling.ensures _ (c.in_ok-write_fits.ensures _ c.in_ok-rows.ensures)))
