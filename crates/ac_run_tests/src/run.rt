@@ -210,12 +210,12 @@ static ANSWERS: [Case; 10] = [
     },
     Case {
         command: Command::Hosts { sum: false },
-        output: "root,name,fits,slot,lacks\n@1,,yes,,\n",
+        output: "root,name,fits,slot,lacks,asks,detail\n@1,,yes,,,,\n",
         ..TOKENS
     },
     Case {
         command: Command::Hosts { sum: true },
-        output: "hosts,slot,lacks\n1,,fits\n",
+        output: "hosts,slot,lacks,asks\n1,,fits,\n",
         ..TOKENS
     },
     Case {

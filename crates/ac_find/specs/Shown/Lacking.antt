@@ -5,9 +5,8 @@ use Rattle.std.specs.Option.{option_map, option_or}
 use Rattle.ac_query.specs.Asked.{Slot}
 use Rattle.ac_cloud.specs.World.{Provider}
 use Rattle.ac_rules.specs.Placed.{Placed}
-use Rattle.ac_prune.specs.Ahead.{hosts_of}
 use Rattle.ac_prune.specs.Trees.Keys.{is_there}
-use Rattle.ac_find.specs.Explained.{has_inventories, in_slot, meets_units, meets_traits, meets_aggregates, meets_tree, meets_room}
+use Rattle.ac_find.specs.Explained.{has_inventories, meets_units, meets_traits, meets_aggregates, meets_tree, meets_room}
 use Rattle.ac_find.specs.Lacking.{first_unserved, if_failed}
 use Rattle.ac_find.specs.declared.lacks.Stage.{Stage}
 use Rattle.ac_find.specs.declared.lacks.Stage.TheVariants.{Inventory, Units, Traits, Aggregates, Tree, Room}
