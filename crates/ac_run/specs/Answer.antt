@@ -17,7 +17,7 @@ use Rattle.ac_query.specs.Pairs.{pairs_of}
 use Rattle.ac_query.specs.Pairs.Values.{ids_value}
 use Rattle.ac_rules.specs.Judge.{judge}
 use Rattle.ac_rules.specs.Pages.{page}
-use Rattle.ac_prune.specs.Fitting.{fits_at, fitting}
+use Rattle.ac_prune.specs.Fitting.{fits_at}
 use Rattle.ac_report.specs.ListRows.{list_text}
 use Rattle.ac_report.specs.Texts.{body, lines, shown_providers}
 use Rattle.ac_fill.specs.Bounds.{most_placed, shorts}
@@ -108,11 +108,11 @@ explanation all asked ids = written (explanation_text all asked (has_candidate a
 
 -- which roots fit, and what the others lack, or how many of them lack what
 abbrev pub hosts_told : Bool → List Provider → Asked → List ℕ
-hosts_told false all asked = hosts_text all asked
+hosts_told false all asked = hosts_text all asked None
 hosts_told true all asked = sums_text all asked
 
 abbrev pub host_rows : List Provider → Bool → Says
-host_rows all sum asked ids = written (hosts_told sum all asked) (hosts_status (fitting all asked))
+host_rows all sum asked ids = written (hosts_told sum all asked) (hosts_status all asked None)
 
 -- how far a query comes in the tree of a provider
 abbrev pub why_not : List Provider → Asked → ℕ → Outcome

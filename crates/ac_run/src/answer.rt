@@ -269,7 +269,7 @@ fn hosts_told(
     if sum {
         sums_text(alloc, cloud, query, lacks)
     } else {
-        hosts_text(alloc, cloud, query, fits, lacks)
+        hosts_text(alloc, cloud, query, None, fits, lacks)
     }
 }
 
@@ -291,7 +291,8 @@ fn write_hosts<W: Sink>(
     let fits = fitting_roots(alloc, cloud, query, tries)?;
     let lacks = find_lacks(alloc, cloud, query, &fits)?;
     let text = hosts_told(alloc, cloud, query, sum, &fits, &lacks)?;
-    push_text(out, &text, hosts_status(&fits))
+    let status = hosts_status(alloc, cloud, query, None, &fits)?;
+    push_text(out, &text, status)
 }
 
 // How far a query comes in the tree of a provider.
