@@ -1,12 +1,16 @@
 //! What the slot asks that a root lacks a provider for, and what is wanting there.
-ghost use Rattle.std.specs.Prelude.{◌≡◌, ◌<◌, ◌-◌, IfOk, length, map, string_bytes};
+ghost use Rattle.std.specs.Prelude.{◌≡◌, ◌<◌, ◌-◌, ℕ, IfOk, Some, [], length, map, string_bytes};
+ghost use Rattle.std.specs.Option.{option_map_or};
 ghost use Rattle.ac_cloud.specs.Cloud.CloudWorld.{providers_of};
+ghost use Rattle.ac_query.specs.Asked.{slots_of};
 ghost use Rattle.ac_query.specs.Shown.Groups.{need_entry};
 ghost use Rattle.ac_query.specs.Shown.Queries.{asked_of};
 ghost use Rattle.ac_rules.specs.Placed.{slot_at};
 ghost use Rattle.ac_find.specs.Furthest.{wanting_where};
 ghost use Rattle.ac_find.specs.Lacking.{lack_at};
+ghost use Rattle.ac_find.specs.declared.furthest.Wanting.{Wanting};
 ghost use Rattle.ac_report.specs.Findings.HostRows.{asks_of, host_detail};
+ghost use Rattle.ac_report.specs.Findings.SlotDetails.{slot_detail};
 
 use crate::findings::asks::asks_text;
 use crate::findings::slot_details::slot_detail;
@@ -44,6 +48,28 @@ pub(super) fn asks_of(
     }
 }
 
+// What is wanting in a slot, where that is found.
+fn wanting_detail(
+    alloc: Global,
+    cloud: &Cloud,
+    query: &Query,
+    s: usize,
+    wanting: Option<Wanting>,
+) -> Result<String, NoMemory>
+    requires slot { s < length (slots_of (asked_of query.now)) }
+    requires provider { (w : Wanting) (p : ℕ) → wanting ≡ Some w → w.provider ≡ Some p
+        → p < length (providers_of cloud.now) }
+    requires class { (w : Wanting) (k : ℕ) → wanting ≡ Some w → w.class ≡ Some k
+        → k < length (slot_at (asked_of query.now) s).needs }
+    ensures { IfOk result (λ text. string_bytes text ≡ option_map_or
+        (λ w. slot_detail (providers_of cloud.now) (slot_at (asked_of query.now) s) w) wanting []) }
+{
+    match wanting {
+        Some(wanting) => slot_detail(alloc, cloud, query, s, &wanting),
+        None => Ok(String::new(alloc)),
+    }
+}
+
 /// What is wanting in the slot that a root lacks a provider for, or which trait of the root is, by what is found there.
 pub(super) fn host_detail(
     alloc: Global,
@@ -60,11 +86,11 @@ pub(super) fn host_detail(
     ensures { IfOk result (λ text. string_bytes text
         ≡ host_detail (providers_of cloud.now) (asked_of query.now) root lacks) }
 {
-    match (lacks, wanting) {
-        (Some(Lack::Slot { slot, stage: _ }), Some(wanting)) => {
-            slot_detail(alloc, cloud, query, slot as usize - 1, &wanting)
+    match lacks {
+        Some(Lack::Slot { slot, stage: _ }) => {
+            wanting_detail(alloc, cloud, query, slot as usize - 1, wanting)
         }
-        (Some(Lack::RootTraits), _) => root_detail(alloc, &cloud.provider(root), query),
+        Some(Lack::RootTraits) => root_detail(alloc, &cloud.provider(root), query),
         _ => Ok(String::new(alloc)),
     }
 }

@@ -6,4 +6,4 @@ use Rattle.ac_base.specs.Writing.Rows.{HasRows}
 use Rattle.ac_report.proofs.findings.host_rows.hosts_text.Given as goal
 
 abbrev pub invariant-loop-root : goal.invariant-loop-root
-invariant-loop-root l = HasRows l.rows (host_columns ∷ map (host_row (providers_of l.cloud) (asked_of l.query)) (take l.root-index l.roots.items))
+invariant-loop-root l = HasRows l.rows (host_columns ∷ map (host_row (providers_of l.cloud) (asked_of l.query)) (take l.root-index l.root-items))
