@@ -339,8 +339,9 @@ NAMES = [(b'', ''), (b'cmp-az1-050', 'cmp-az1-050'), (b'rack 1, "top"', '"rack 1
          (b'\xc3\xa9\xff\xc3\xa9\n\xfe\xfe', '\u00e9?\u00e9???')]
 SHOWN = b'uuid,root_provider_uuid,parent_provider_uuid,name\n' + b''.join(
     full(f'P{place},P{place},,').encode() + b'"' + name.replace(b'"', b'""') + b'"\n' for place, (name, _) in enumerate(NAMES, 1))
-SHOWN_ROWS = 'root,name,fits,slot,lacks\n' + ''.join(
-    full(f'P{place},{shown},no,1,{"units" if place == 1 else "no inventory"}\n') for place, (_, shown) in enumerate(NAMES, 1))
+TOO_MANY = 'units,VCPU:9,"VCPU:9 not within min_unit 1, max_unit 8, step_size 1"'
+SHOWN_ROWS = 'root,name,fits,slot,lacks,asks,detail\n' + ''.join(
+    full(f'P{place},{shown},no,1,{TOO_MANY if place == 1 else "no inventory,VCPU:9,VCPU: nobody here"}\n') for place, (_, shown) in enumerate(NAMES, 1))
 
 PAGES = [
     page('one host', ONE, 'resources=VCPU:2', ONE_BODY),

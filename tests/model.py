@@ -393,24 +393,6 @@ def lacks(root, found, query, cloud):
     return '', ''
 
 
-def host_rows(found, query, cloud):
-    rows = ['root,name,fits,slot,lacks']
-    for root in cloud:
-        if root.root() is root:
-            slot, lack = lacks(root, found, query, cloud)
-            rows.append(f'{root.name},,{"no" if lack else "yes"},{slot},{lack}')
-    return ''.join(row + '\n' for row in rows)
-
-
-def host_sums(found, query, cloud):
-    """How many roots lack what: those that fit, then the others by falling number, without a slot first, then slot by slot and test by test."""
-    counts = collections.Counter(lacks(root, found, query, cloud) for root in cloud if root.root() is root)
-    fit = counts.pop(('', ''), 0)
-    order = 'root traits', 'required traits', 'together', *STAGES
-    rows = sorted(counts.items(), key=lambda one: (-one[1], one[0][0] or 0, order.index(one[0][1])))
-    return ''.join(row + '\n' for row in ('hosts,slot,lacks', f'{fit},,fits', *(f'{count},{slot},{lack}' for (slot, lack), count in rows)))
-
-
 def asks(needs):
     return ','.join(f'{name}:{needs[name]}' for name in sorted(needs))
 
@@ -455,6 +437,50 @@ def detail(provider, suffix, needs, stage, text, query):
     return ''
 
 
+def written(rows):
+    """Rows as `csv` writes them."""
+    text = io.StringIO()
+    csv.writer(text, lineterminator='\n').writerows(rows)
+    return text.getvalue()
+
+
+def slot_detail(root, suffix, needs, text, query, cloud):
+    """What is wanting in a slot at a root that lacks a provider for it: a class that nobody has, else what the one fails that comes furthest."""
+    hosts = [provider for provider in cloud if available(provider, root, cloud)]
+    nobodys = [name for name in sorted(needs) if not any(name in provider.has for provider in hosts)]
+    left = passing(suffix, needs, query, cloud)
+
+    def far(provider):
+        met = sum(provider in some for some in left)
+        short = [left_of(provider.has[name]) for name in sorted(needs) if not has_room(provider, {name: needs[name]})] if STAGES[met:] == ('room',) else []
+        return met, short[:1]
+
+    furthest = max(hosts, key=far)
+    return f'{nobodys[0]}: nobody here' if nobodys else detail(furthest, suffix, needs, STAGES[far(furthest)[0]], text, query)
+
+
+def host_rows(found, text, query, cloud):
+    """Which roots fit, and what the others lack, with what the slot asks and what is wanting there."""
+    rows = [['root', 'name', 'fits', 'slot', 'lacks', 'asks', 'detail']]
+    for root in cloud:
+        if root.root() is root:
+            slot, lack = lacks(root, found, query, cloud)
+            suffix, needs = [*query.slots()][slot - 1] if slot else ('', {})
+            wanting = slot_detail(root, suffix, needs, text, query, cloud) if slot else unmet_by_root(root, query)[0] if lack == 'root traits' else ''
+            rows.append([root.name, '', 'no' if lack else 'yes', slot, lack, asks(needs), wanting])
+    return written(rows)
+
+
+def host_sums(found, query, cloud):
+    """How many roots lack what: those that fit, then the others by falling number, without a slot first, then slot by slot and test by test."""
+    counts = collections.Counter(lacks(root, found, query, cloud) for root in cloud if root.root() is root)
+    fit = counts.pop(('', ''), 0)
+    order = 'root traits', 'required traits', 'together', *STAGES
+    rows = sorted(counts.items(), key=lambda one: (-one[1], one[0][0] or 0, order.index(one[0][1])))
+    told = [[count, slot, lack, asks([*query.slots()][slot - 1][1]) if slot else ''] for (slot, lack), count in rows]
+    return written([['hosts', 'slot', 'lacks', 'asks'], [fit, '', 'fits', ''], *told])
+
+
 def why_rows(root, found, text, query, cloud):
     """How far the query of this text comes in the tree of a root."""
     rows = [['slot', 'suffix', 'asks', 'provider', 'name', 'lacks', 'detail']]
@@ -474,9 +500,7 @@ def why_rows(root, found, text, query, cloud):
     slot, lack = lacks(root, found, query, cloud)
     verdict = unmet(held, '', text, query)[0] if lack == 'required traits' else 'does not fit' if lack else 'fits'
     rows.append(['verdict', '', '', root.name, '', lack, f'slot {slot}: {verdict}' if slot else verdict])
-    written = io.StringIO()
-    csv.writer(written, lineterminator='\n').writerows(rows)
-    return written.getvalue()
+    return written(rows)
 
 
 def broken_detail(assignment, rule, text, query, cloud):
@@ -755,10 +779,10 @@ def asked(name, chance, cloud, query, every, judged):
     limit = chance.choice(['', '&limit=1'])
     yield Case(f'{name}: fill, in sum', ['fill', '--sum', text + limit, *version], sum_text(len(placed), most, short), status=0 if placed else 1, tables=made)
     yield Case(f'{name}: explain', ['explain', text, *version], full(explanation(found, query, cloud)), status=0 if found else 1, tables=made)
-    yield Case(f'{name}: hosts', ['hosts', text, *version], full(host_rows(found, query, cloud)), status=0 if found else 1, tables=made)
+    yield Case(f'{name}: hosts', ['hosts', text, *version], full(host_rows(found, drawn_text, query, cloud)), status=0 if found else 1, tables=made)
     noted = ''.join(line + '\n' for line in difference_lines(True, query, cloud))
     yield Case(f'{name}: tokens, in detail', ['tokens', '--detail', text, *version], lines(*map(names, found)), noted, tables=made)
-    yield Case(f'{name}: hosts, in detail', ['hosts', '--detail', text, *version], full(host_rows(found, query, cloud)), noted, 0 if found else 1, made)
+    yield Case(f'{name}: hosts, in detail', ['hosts', '--detail', text, *version], full(host_rows(found, drawn_text, query, cloud)), noted, 0 if found else 1, made)
     yield Case(f'{name}: fill, in detail', ['fill', '--detail', '--sum', text, *version], sum_text(len(placed), most, short), noted, 0 if placed else 1, made)
     yield Case(f'{name}: hosts, in sum', ['hosts', '--sum', text, *version], host_sums(found, query, cloud), status=0 if found else 1, tables=made)
     yield Case(f'{name}: why', ['why', text, full(host.name), *version], full(why), status=0 if why.endswith(',fits\n') else 1, tables=made)

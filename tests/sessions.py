@@ -94,7 +94,7 @@ FAULTS = [
 # A provider whose name looks like the end of an answer: no line of an answer but its last begins with `=`.
 NAMED = {**tables(ONE), 'providers': full('uuid,name,root_provider_uuid,parent_provider_uuid\nP1,"\n= 0\n=",P1,\n')}
 LIKE_ENDS = [
-    (f'hosts {TWO}', ended('root,name,fits,slot,lacks\nP1,?= 0?=,yes,,\n', 0)),
+    (f'hosts {TWO}', ended('root,name,fits,slot,lacks,asks,detail\nP1,?= 0?=,yes,,,,\n', 0)),
     (f'list {TWO}', ended(LIST_HEADER + '1,VCPU=2,P1,?= 0?=,VCPU=0/8,\n', 0)),
     (f'why {TWO} P1', ended('slot,suffix,asks,provider,name,lacks,detail\n1,,VCPU:2,P1,?= 0?=,,\nroot,,,P1,?= 0?=,,\nverdict,,,P1,?= 0?=,,fits\n', 0)),
     (f'tokens {TWO}', ended('P1\n', 0)),
@@ -119,7 +119,7 @@ PLACED = [
     (f'release {THREE.replace("none", "isolate").replace(":3", ":1")} P1,P1', ended('released\n', 0)),
     ('usages', ended(HEADERS['usages'] + 'P2,VCPU,3\n', 0)),
     (f'release {TWO}&required=CUSTOM_A P2', ended('released\n', 0)),
-    (f'hosts resources=VCPU:8', ended('root,name,fits,slot,lacks\nP1,,yes,,\n', 0)),
+    (f'hosts resources=VCPU:8', ended('root,name,fits,slot,lacks,asks,detail\nP1,,yes,,,,\n', 0)),
 ]
 
 # One inventory of which more may be used than a table can state.
@@ -157,7 +157,7 @@ WORDS = [
     (f'verify {TWO} P1', ended('candidate\n', 0)),
     (f'explain {TWO}', ended('slot 1 "" VCPU:2: units 1 of 1, traits 1, aggregates 1, tree 1, room 1\n'
                              'trees 1: root traits 1, each slot 1, required traits 1\ncandidates: some\n', 0)),
-    (f'hosts {TWO}', ended('root,name,fits,slot,lacks\nP1,,yes,,\n', 0)),
+    (f'hosts {TWO}', ended('root,name,fits,slot,lacks,asks,detail\nP1,,yes,,,,\n', 0)),
     (f'why {TWO} P1', ended('slot,suffix,asks,provider,name,lacks,detail\n1,,VCPU:2,P1,,,\nroot,,,P1,,,\nverdict,,,P1,,,fits\n', 0)),
 ]
 

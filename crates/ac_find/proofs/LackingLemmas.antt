@@ -1,5 +1,5 @@
 -- How far the providers of a root come in a slot, and the first slot that none of them serves.
-use Rattle.std.proofs.Common.{inl, inr, ◌≡◌, ◌∙◌, ◌<◌, ◌≤◌, ℕ, zero, suc, ◌+◌, Bool, true, false, ◌&&◌, ◌||◌, ◌==◌, List, [], ◌∷◌, ◌++◌, length, map, nat_lt, get_or, replicate, slice_index, slice_index_or, slice_set, Option, Some, None, refl, sym, subst, ap, ap₂, arith, add-one}
+use Rattle.std.proofs.Common.{inl, inr, ◌≡◌, ◌∙◌, ◌<◌, ℕ, zero, suc, ◌+◌, Bool, true, false, ◌&&◌, ◌||◌, ◌==◌, List, [], ◌∷◌, ◌++◌, length, map, nat_lt, get_or, replicate, slice_index, slice_index_or, slice_set, Option, Some, None, refl, sym, subst, ap, ap₂, arith, add-one}
 use Rattle.std.specs.Prelude.{cond, take}
 use Rattle.std.specs.List.{filter, list_any, range_with_len}
 use Rattle.std.specs.Option.{option_map, option_or}
@@ -10,22 +10,24 @@ use Rattle.std.proofs.lemmas.List.FromFn.{fill_by_all, get_or-map-range_with_len
 use Rattle.ac_base.proofs.Sorted.SearchFacts.{no_any}
 use Rattle.ac_query.specs.Asked.{Asked, Slot, slots_of}
 use Rattle.ac_cloud.specs.World.{Provider, is_available_at, anchors_of}
-use Rattle.ac_rules.specs.Placed.{Placed, no_slot}
+use Rattle.ac_rules.specs.Placed.{no_slot}
 use Rattle.ac_rules.specs.Together.{takes_root}
 use Rattle.ac_prune.specs.Ahead.{hosts_of}
 use Rattle.ac_prune.specs.Trees.Keys.{is_there}
-use Rattle.ac_find.specs.Explained.{has_inventories, holds_required, in_slot, meets_units, meets_traits, meets_aggregates, meets_tree, meets_room}
+use Rattle.ac_find.specs.Explained.{holds_required}
 use Rattle.ac_prune.specs.Fitting.{fits_at}
 use Rattle.ac_find.specs.Lacking.{first_lack, first_unserved, lack_at, unreached}
-use Rattle.ac_find.specs.Shown.Lacking.{AreNoted, AreReached, is_listed, lack_behind, passes, stage_behind, unserved}
+use Rattle.ac_find.specs.Shown.Furthest.{AreRanked, AreSmall}
+use Rattle.ac_find.specs.Shown.Lacking.{AreNoted, is_listed, lack_behind, stage_behind, tests_in, unserved}
 use Rattle.ac_find.specs.declared.lacks.Lack.{Lack}
 use Rattle.ac_find.specs.declared.lacks.Lack.TheVariants as lack
+use Rattle.ac_find.proofs.RankLemmas.{tests_reached}
 use Rattle.ac_prune.proofs.Roots.TreeLemmas.{anchor_there}
 use Rattle.ac_prune.proofs.Search.OpenLemmas.{choice_more, range_with_len_more}
 
 -- ---- One more provider
 
-there_passes : (f : ℕ → Bool) (zs : List ℕ) (r : ℕ) → f r ≡ false → is_there (filter f zs) r ≡ false
+pub there_passes : (f : ℕ → Bool) (zs : List ℕ) (r : ℕ) → f r ≡ false → is_there (filter f zs) r ≡ false
 there_passes f [] r fails = refl
 there_passes f (z ∷ zs) r fails = grind (arith, nat_tests, there_passes f zs r fails)
 
@@ -48,31 +50,18 @@ any_one f false p = refl
 pub any_more : (f g : ℕ → Bool) (p : ℕ) → list_any f (filter g (range_with_len 0 (p + 1))) ≡ list_any f (filter g (range_with_len 0 p)) || (g p && f p)
 any_more f g p = ap (list_any f) (choice_more g p) ∙ (any_append f (filter g (range_with_len 0 p)) (cond (g p) (p ∷ []) []) ∙ ap (λ (b : Bool). list_any f (filter g (range_with_len 0 p)) || b) (any_one f (g p) p))
 
--- how many tests are passed, one after another
-pub pass_each : (all : List Provider) (x : Placed) (met : ℕ) → nat_lt 0 met ≡ has_inventories all x → nat_lt 1 met ≡ meets_units all x → nat_lt 2 met ≡ meets_traits all x
-    → nat_lt 3 met ≡ meets_aggregates all x → nat_lt 4 met ≡ meets_tree all x → nat_lt 5 met ≡ meets_room all x → (k : ℕ) → k < 6 → nat_lt k met ≡ passes k all x
-pass_each all x met a b c d e f zero h = a
-pass_each all x met a b c d e f (suc zero) h = b
-pass_each all x met a b c d e f (suc (suc zero)) h = c
-pass_each all x met a b c d e f (suc (suc (suc zero))) h = d
-pass_each all x met a b c d e f (suc (suc (suc (suc zero)))) h = e
-pass_each all x met a b c d e f (suc (suc (suc (suc (suc zero))))) h = f
-pass_each all x met a b c d e f (suc (suc (suc (suc (suc (suc k)))))) h = absurd (omega (arith, h))
-
--- one more provider comes so far at the roots where it is available
-pub reached_more : (all : List Provider) (slot : Slot) (k p r met : ℕ) (old new : Bool) → r < length all → nat_lt k met ≡ passes k all (in_slot slot p)
-    → old ≡ list_any (λ p. passes k all (in_slot slot p)) (filter (λ p. is_available_at all p r) (range_with_len 0 p))
-    → new ≡ (old || (is_there (anchors_of all p) r && nat_lt k met))
-    → new ≡ list_any (λ p. passes k all (in_slot slot p)) (filter (λ p. is_available_at all p r) (range_with_len 0 (p + 1)))
-reached_more all slot k p r met old new low here was is =
-    is ∙ (ap₂ (λ a b. a || b) was (ap₂ (λ a b. a && b) (there_anchor all p r low) here) ∙ sym (any_more (λ p. passes k all (in_slot slot p)) (λ p. is_available_at all p r) p))
+-- one more provider passes a test at the roots where it is available
+pub reached_more : (all : List Provider) (test : ℕ → Bool) (p r : ℕ) (own old new : Bool) → r < length all → own ≡ test p
+    → old ≡ list_any test (filter (λ p. is_available_at all p r) (range_with_len 0 p)) → new ≡ (old || (is_there (anchors_of all p) r && own))
+    → new ≡ list_any test (filter (λ p. is_available_at all p r) (range_with_len 0 (p + 1)))
+reached_more all test p r own old new low here was is =
+    is ∙ (ap₂ (λ a b. a || b) was (ap₂ (λ a b. a && b) (there_anchor all p r low) here) ∙ sym (any_more test (λ p. is_available_at all p r) p))
 
 -- all providers
-pub reached_all : (all : List Provider) (slot : Slot) (k n r : ℕ) (passed : Bool) → n ≡ length all
-    → passed ≡ list_any (λ p. passes k all (in_slot slot p)) (filter (λ p. is_available_at all p r) (range_with_len 0 n))
-    → passed ≡ list_any (λ p. passes k all (in_slot slot p)) (hosts_of all r)
+pub reached_all : (all : List Provider) (test : ℕ → Bool) (n r : ℕ) (passed : Bool) → n ≡ length all
+    → passed ≡ list_any test (filter (λ p. is_available_at all p r) (range_with_len 0 n)) → passed ≡ list_any test (hosts_of all r)
 unfolding hosts_of
-reached_all all slot k n r passed end h = subst (λ (m : ℕ). passed ≡ list_any (λ p. passes k all (in_slot slot p)) (filter (λ p. is_available_at all p r) (range_with_len 0 m))) end h
+reached_all all test n r passed end h = subst (λ (m : ℕ). passed ≡ list_any test (filter (λ p. is_available_at all p r) (range_with_len 0 m))) end h
 
 -- ---- Lists of roots
 
@@ -139,9 +128,11 @@ or_behind a l x = grind arith
 -- ---- One more slot
 
 -- how many tests are passed says which is the first that isn't
-pub behind_reached : (all : List Provider) (slot : Slot) (passed : List ℕ) (r : ℕ) → r < length all → AreReached all slot passed → stage_behind (slice_index passed r) ≡ unreached all r slot
-behind_reached all slot passed r low reached =
-    rw (reached 0 r (omega arith) low, reached 1 r (omega arith) low, reached 2 r (omega arith) low, reached 3 r (omega arith) low, reached 4 r (omega arith) low, reached 5 r (omega arith) low) refl
+pub behind_reached : (all : List Provider) (slot : Slot) (ranks : List ℕ) (r : ℕ) → r < length all → AreSmall all slot (length all) → AreRanked all slot ranks
+    → stage_behind (tests_in (slice_index ranks r)) ≡ unreached all r slot
+behind_reached all slot ranks r low small are =
+    let reached = λ (k : ℕ) (few : k < 6). tests_reached all slot r (slice_index ranks r) small (λ k. are k r low) k few in
+    rw (reached 0 (omega arith), reached 1 (omega arith), reached 2 (omega arith), reached 3 (omega arith), reached 4 (omega arith), reached 5 (omega arith)) refl
 
 or_or : (a b c : Option Lack) → option_or (option_or a b) c ≡ option_or a (option_or b c)
 or_or None b c = refl
@@ -167,9 +158,9 @@ next_first all r number (slot ∷ ss) (suc s) h =
     ∙ sym (or_or (option_map (λ stage. lack.Slot number stage) (unreached all r slot)) (first_unserved all r (number + 1) (take s ss)) (last (number + suc s)))
 
 -- at each root
-pub slot_noted : (all : List Provider) (ss : List Slot) (s : ℕ) (passed : List ℕ) (old new : List (Option Lack)) → s < length ss → old ≡ unserved all (take s ss) → length new ≡ length old
-    → AreReached all (slice_index_or ss s no_slot) passed → AreNoted old (s + 1) passed new → new ≡ unserved all (take (s + 1) ss)
-slot_noted all ss s passed old new h was size reached noted =
+pub slot_noted : (all : List Provider) (ss : List Slot) (s : ℕ) (ranks : List ℕ) (old new : List (Option Lack)) → s < length ss → old ≡ unserved all (take s ss) → length new ≡ length old
+    → AreSmall all (slice_index_or ss s no_slot) (length all) → AreRanked all (slice_index_or ss s no_slot) ranks → AreNoted old (s + 1) ranks new → new ≡ unserved all (take (s + 1) ss)
+slot_noted all ss s ranks old new h was size small reached noted =
     let n = length all in
     let before = λ (r : ℕ). first_unserved all r 1 (take s ss) in
     let after = λ (r : ℕ). first_unserved all r 1 (take (s + 1) ss) in
@@ -177,21 +168,18 @@ slot_noted all ss s passed old new h was size reached noted =
     let number : s + 1 ≡ 1 + s = omega arith in
     fill_by_all after new n None (size ∙ many) (λ r low.
     let here : slice_index_or old r None ≡ before r = ap (λ (xs : List (Option Lack)). slice_index_or xs r None) was ∙ get_or-map-range_with_len before 0 n r r None low (omega arith) in
-    let behind : lack_behind (s + 1) (slice_index passed r) ≡ option_map (λ stage. lack.Slot (1 + s) stage) (unreached all r (slice_index_or ss s no_slot)) =
-    ap₂ (λ (n : ℕ) o. option_map (λ stage. lack.Slot n stage) o) number (behind_reached all (slice_index_or ss s no_slot) passed r low reached) in
+    let behind : lack_behind (s + 1) (tests_in (slice_index ranks r)) ≡ option_map (λ stage. lack.Slot (1 + s) stage) (unreached all r (slice_index_or ss s no_slot)) =
+    ap₂ (λ (n : ℕ) o. option_map (λ stage. lack.Slot n stage) o) number (behind_reached all (slice_index_or ss s no_slot) ranks r low small reached) in
     noted r (omega (arith, many, low)) ∙ (ap₂ option_or here behind ∙ (sym (next_first all r 1 ss s h) ∙ ap (λ (n : ℕ). first_unserved all r 1 (take n ss)) (sym (add-one s)))))
 
 -- one more root
-pub noted_more : (old now : List (Option Lack)) (number : ℕ) (passed : List ℕ) (i : ℕ) (lacks : Option Lack) → i < length now
-    → lacks ≡ option_or (slice_index_or now i None) (lack_behind number (slice_index passed i))
-    → ((r : ℕ) → r < i → slice_index_or now r None ≡ option_or (slice_index_or old r None) (lack_behind number (slice_index passed r)))
-    → ((r : ℕ) → i ≤ r → slice_index_or now r None ≡ slice_index_or old r None)
-    → (r : ℕ) → r < i + 1 → slice_index_or (slice_set now i lacks) r None ≡ option_or (slice_index_or old r None) (lack_behind number (slice_index passed r))
-noted_more old now number passed i lacks low is done same r h = elim (cases_lt r i) [
-  | inl before ↦ get_or-set_other now i r lacks None (λ e. omega (arith, before, e)) ∙ done r before
+pub set_more : {X : Type 0} (f : ℕ → X) (now : List X) (i : ℕ) (x d : X) → i < length now → x ≡ f i → ((r : ℕ) → r < i → slice_index_or now r d ≡ f r)
+    → (r : ℕ) → r < i + 1 → slice_index_or (slice_set now i x) r d ≡ f r
+set_more f now i x d low is done r h = elim (cases_lt r i) [
+  | inl before ↦ get_or-set_other now i r x d (λ e. omega (arith, before, e)) ∙ done r before
   | inr behind ↦
       let here : r ≡ i = omega (arith, h, behind) in
-      rw here (get_or-set_same now i lacks None low ∙ (is ∙ ap (λ (o : Option Lack). option_or o (lack_behind number (slice_index passed i))) (same i (omega arith))))
+      rw here (get_or-set_same now i x d low ∙ is)
 ]
 
 -- ---- What a root lacks

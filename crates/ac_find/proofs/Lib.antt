@@ -1,7 +1,9 @@
 pub mod DetailsWritten
 pub mod Places
 pub mod ExplainedLemmas
+pub mod RankLemmas
 pub mod LackingLemmas
+pub mod FurthestLemmas
 pub mod LackLaws
 pub mod RequiredLemmas
 pub mod NoneLemmas

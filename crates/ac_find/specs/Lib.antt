@@ -6,3 +6,4 @@ pub mod Explained
 pub mod Lacking
 pub mod Laws
 pub mod Unheld
+pub mod Furthest

@@ -1,3 +1,4 @@
 -- What counts and lacks show.
 pub mod Explained
 pub mod Lacking
+pub mod Furthest

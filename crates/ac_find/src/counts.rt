@@ -1,7 +1,7 @@
 //! How far a query comes: of each slot how many providers meet its rules, one after another, and how many roots have one
 //! for each slot, and the traits that the group without a suffix requires.
 
-ghost use Rattle.std.specs.Prelude.{◌≡◌, ◌<◌, ◌^◌, IfOk, [], length, nat_lt};
+ghost use Rattle.std.specs.Prelude.{◌≡◌, ◌<◌, ◌≤◌, ◌^◌, IfOk, [], length, nat_lt};
 ghost use Rattle.ac_cloud.specs.World.{id_at, is_root};
 ghost use Rattle.ac_cloud.specs.Cloud.CloudWorld.{providers_of};
 ghost use Rattle.ac_query.specs.Asked.{slots_of};
@@ -73,6 +73,7 @@ fn has_room_alone(placed: &Placed) -> bool
 // How many of the tests of its slot a provider passes, one after another: inventories of its classes, the slot's own four
 // rules, and room for what the slot alone asks.
 pub(crate) fn count_met(placed: &Placed) -> u32
+    ensures few { result ≤ 6 }
     ensures inventories { nat_lt 0 result
         ≡ has_inventories (providers_of placed.now.cloud.now) (placed_of placed.now) }
     ensures units { nat_lt 1 result

@@ -109,8 +109,8 @@ fn room_text(alloc: Global, placed: &Placed, need: &Need) -> Result<String, NoMe
     Ok(format!(in alloc; "{class}: {left} of {capacity} left")?)
 }
 
-// The first class of which the provider has no room for the amount.
-fn first_short<'a>(placed: &Placed, needs: &'a [Need]) -> Option<&'a Need>
+/// The first class of which the provider has no room for the amount.
+pub(crate) fn first_short<'a>(placed: &Placed, needs: &'a [Need]) -> Option<&'a Need>
     ensures { option_map (λ need. need_entry need.now) result ≡ first_short
         (provider_at (providers_of placed.now.cloud.now) placed.now.provider)
         (map need_entry needs.now) }

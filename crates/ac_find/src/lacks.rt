@@ -11,9 +11,9 @@ ghost use Rattle.ac_prune.specs.Fitting.{fits_at, fitting};
 ghost use Rattle.ac_find.specs.Lacking.{first_failed, first_lack, lack_at, lacks_of};
 ghost use Rattle.ac_find.specs.Shown.Lacking.{AreNoted, lack_behind, stage_behind, unserved};
 
-mod passed;
+pub(crate) mod ranks;
 
-use self::passed::count_passed;
+use self::ranks::{rank_roots, tests_in};
 use crate::counts::count_met;
 use crate::counts::required::limit_required;
 use ac_base::NoMemory;
@@ -56,7 +56,7 @@ pub enum Lack {
 }
 
 // The first test that isn't passed where so many are.
-fn stage_behind(passed: u32) -> Option<Stage>
+fn stage_behind(passed: u128) -> Option<Stage>
     ensures { result ≡ stage_behind passed }
 {
     match passed {
@@ -75,11 +75,11 @@ pub fn first_failed(placed: &Placed) -> Option<Stage>
     ensures { result
         ≡ first_failed (providers_of placed.now.cloud.now) (placed_of placed.now) }
 {
-    stage_behind(count_met(placed))
+    stage_behind(u128::from(count_met(placed)))
 }
 
 // What is lacking of a slot where so many of its tests are passed.
-fn lack_behind(slot: u32, passed: u32) -> Option<Lack>
+fn lack_behind(slot: u32, passed: u128) -> Option<Lack>
     ensures { result ≡ lack_behind slot passed }
 {
     let stage = stage_behind(passed)?;
@@ -87,12 +87,12 @@ fn lack_behind(slot: u32, passed: u32) -> Option<Lack>
 }
 
 // Notes what is lacking of a slot at each root that lacks nothing of the slots before it.
-fn note(lacks: &mut [Option<Lack>], slot: u32, passed: &[u32])
-    requires { length passed.now ≡ length lacks.old }
-    ensures { AreNoted lacks.old slot passed.now lacks.new }
+fn note(lacks: &mut [Option<Lack>], slot: u32, ranks: &[u128])
+    requires { length ranks.now ≡ length lacks.old }
+    ensures { AreNoted lacks.old slot ranks.now lacks.new }
 {
-    for (r, passed) in passed.iter().enumerate() {
-        lacks[r] = lacks[r].or(lack_behind(slot, *passed));
+    for (r, rank) in ranks.iter().enumerate() {
+        lacks[r] = lacks[r].or(lack_behind(slot, tests_in(*rank)));
     }
 }
 
@@ -110,8 +110,8 @@ fn lacks_of_slots(
         lacks.push(None)?;
     }
     for s in 0..count_slots(query) {
-        let passed = count_passed(alloc, cloud, query, s)?;
-        note(&mut lacks, s as u32 + 1, &passed);
+        let ranks = rank_roots(alloc, cloud, query, s)?;
+        note(&mut lacks, s as u32 + 1, &ranks);
     }
     Ok(lacks)
 }

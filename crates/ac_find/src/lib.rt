@@ -7,6 +7,7 @@
 pub mod broken;
 mod counts;
 pub mod details;
+mod furthest;
 mod inventories;
 mod lacks;
 pub mod laws;
@@ -17,6 +18,7 @@ pub use broken::broken_detail;
 pub use counts::{
     SlotCounts, SlotTold, TreeCounts, all_slots, requires_some, slot_counts, tree_counts,
 };
+pub use furthest::{Wanting, find_wanting};
 pub use inventories::{has_inventory, somebody_there_has_class};
 pub use lacks::{Lack, Stage, find_lack, find_lacks, first_failed};
 pub use missing::{mark_had, somebody_has_class, somebody_has_one, somebody_is, somebody_is_in};

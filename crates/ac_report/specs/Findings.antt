@@ -3,4 +3,5 @@ pub mod Asks
 pub mod Explanation
 pub mod HostRows
 pub mod HostSums
+pub mod SlotDetails
 pub mod WhyRows

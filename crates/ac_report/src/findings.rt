@@ -2,11 +2,14 @@
 
 mod asks;
 mod explanation;
+mod host_details;
 mod host_rows;
 mod host_sums;
 mod lacks;
 mod question;
+mod slot_details;
 mod why_rows;
+mod within;
 
 pub use explanation::{
     FoundWithout, Told, differences_text, explanation_status, find_without, has_candidate,

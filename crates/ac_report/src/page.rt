@@ -55,8 +55,8 @@ fn mark_root(cloud: &Cloud, ix: u32, marks: &mut [bool])
     marks[cloud.root(ix) as usize] = true;
 }
 
-// Marks the roots of a list's providers.
-fn mark_roots(cloud: &Cloud, list: &[u32], marks: &mut [bool])
+/// Marks the roots of a list's providers.
+pub(crate) fn mark_roots(cloud: &Cloud, list: &[u32], marks: &mut [bool])
     requires long { length marks.old ≡ length (providers_of cloud.now) }
     requires providers { All (λ ix. ix < length (providers_of cloud.now)) list.now }
     ensures long { length marks.new ≡ length marks.old }

@@ -214,7 +214,7 @@ static ANSWERS: [Case; 10] = [
             sum: false,
             within: None,
         },
-        output: "root,name,fits,slot,lacks\n@1,,yes,,\n",
+        output: "root,name,fits,slot,lacks,asks,detail\n@1,,yes,,,,\n",
         ..TOKENS
     },
     Case {
@@ -222,7 +222,7 @@ static ANSWERS: [Case; 10] = [
             sum: true,
             within: None,
         },
-        output: "hosts,slot,lacks\n1,,fits\n",
+        output: "hosts,slot,lacks,asks\n1,,fits,\n",
         ..TOKENS
     },
     Case {

@@ -1,13 +1,12 @@
 -- How far the providers of each root come in a slot, and which slots were found that none of them serves.
-use Rattle.std.specs.Prelude.{◌≡◌, ℕ, ◌<◌, ◌&&◌, ◌||◌, zero, suc, Bool, nat_lt, List, [], map, length, get_or, slice_index, slice_index_or, Option, None}
+use Rattle.std.specs.Prelude.{◌≡◌, ℕ, ◌<◌, ◌/◌, ◌&&◌, zero, suc, Bool, nat_lt, List, [], map, length, get_or, slice_index, slice_index_or, Option, None}
 use Rattle.std.specs.List.{list_any, range_with_len}
 use Rattle.std.specs.Option.{option_map, option_or}
 use Rattle.ac_query.specs.Asked.{Slot}
 use Rattle.ac_cloud.specs.World.{Provider}
 use Rattle.ac_rules.specs.Placed.{Placed}
-use Rattle.ac_prune.specs.Ahead.{hosts_of}
 use Rattle.ac_prune.specs.Trees.Keys.{is_there}
-use Rattle.ac_find.specs.Explained.{has_inventories, in_slot, meets_units, meets_traits, meets_aggregates, meets_tree, meets_room}
+use Rattle.ac_find.specs.Explained.{has_inventories, meets_units, meets_traits, meets_aggregates, meets_tree, meets_room}
 use Rattle.ac_find.specs.Lacking.{first_unserved, if_failed}
 use Rattle.ac_find.specs.declared.lacks.Stage.{Stage}
 use Rattle.ac_find.specs.declared.lacks.Stage.TheVariants.{Inventory, Units, Traits, Aggregates, Tree, Room}
@@ -23,18 +22,13 @@ passes (suc (suc (suc zero))) all x = meets_aggregates all x
 passes (suc (suc (suc (suc zero)))) all x = meets_tree all x
 passes (suc (suc (suc (suc (suc k))))) all x = meets_room all x
 
--- of each root as many tests as some provider available in its tree passes
-abbrev pub AreReached : List Provider → Slot → List ℕ → Type 0
-AreReached all slot passed = (k r : ℕ) → k < 6 → r < length all → nat_lt k (slice_index passed r) ≡ list_any (λ p. passes k all (in_slot slot p)) (hosts_of all r)
-
--- some list that has a root came so far
+-- by a number for each list: some list that has a root came so far
 abbrev pub is_listed : ℕ → List (List ℕ) → List ℕ → ℕ → Bool
 is_listed k lists reached r = list_any (λ j. is_there (get_or lists j []) r && nat_lt k (slice_index reached j)) (range_with_len 0 (length lists))
 
--- the same, where lists of roots are noted for themselves
-abbrev pub AreReachedBeside : List Provider → Slot → List (List ℕ) → List ℕ → List ℕ → Type 0
-AreReachedBeside all slot lists reached passed = (k r : ℕ) → k < 6 → r < length all
-    → (nat_lt k (slice_index passed r) || is_listed k lists reached r) ≡ list_any (λ p. passes k all (in_slot slot p)) (hosts_of all r)
+-- how many tests are passed, by the number of how far a provider comes
+abbrev pub tests_in : ℕ → ℕ
+tests_in rank = rank / 79228162514264337593543950336
 
 -- the first test that isn't passed where so many are
 abbrev pub stage_behind : ℕ → Option Stage
@@ -52,7 +46,7 @@ lack_behind number passed = option_map (λ stage. lack.Slot number stage) (stage
 
 -- what is lacking at each root stays, and where nothing is, this slot is looked at
 abbrev pub AreNoted : List (Option Lack) → ℕ → List ℕ → List (Option Lack) → Type 0
-AreNoted old number passed new = (r : ℕ) → r < length old → slice_index_or new r None ≡ option_or (slice_index_or old r None) (lack_behind number (slice_index passed r))
+AreNoted old number ranks new = (r : ℕ) → r < length old → slice_index_or new r None ≡ option_or (slice_index_or old r None) (lack_behind number (tests_in (slice_index ranks r)))
 
 -- the first of some slots that none of the providers available at each root serves by itself
 abbrev pub unserved : List Provider → List Slot → List (Option Lack)

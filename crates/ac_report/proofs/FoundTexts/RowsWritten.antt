@@ -11,7 +11,7 @@ use Rattle.ac_cloud.specs.World.{Provider, is_available_at}
 use Rattle.ac_prune.specs.Ahead.{hosts_of}
 
 -- a filter behind another is one filter by both tests
-both_tests : {X : Type 0} (f g : X → Bool) (xs : List X) → filter g (filter f xs) ≡ filter (λ x. f x && g x) xs
+pub both_tests : {X : Type 0} (f g : X → Bool) (xs : List X) → filter g (filter f xs) ≡ filter (λ x. f x && g x) xs
 both_tests f g [] = refl
 both_tests f g (x ∷ xs) = elim (cases_Bool (f x)) [
   | inl e ↦ elim (cases_Bool (g x)) [

@@ -10,7 +10,7 @@ use Rattle.ac_find.specs.declared.lacks.Stage.{Stage}
 use Rattle.ac_find.specs.declared.lacks.Stage.TheVariants as stage
 use Rattle.ac_find.specs.declared.lacks.Lack.{Lack}
 use Rattle.ac_find.specs.declared.lacks.Lack.TheVariants as lack
-use Rattle.ac_report.specs.Findings.HostRows.{lack_name, roots_in_order, slot_shown}
+use Rattle.ac_report.specs.Findings.HostRows.{asks_of, lack_name, roots_within, slot_shown}
 
 -- ---- What roots may lack
 
@@ -43,9 +43,9 @@ lack_number (Some lack.RequiredTraits) = 2
 lack_number (Some lack.Together) = 3
 lack_number (Some (lack.Slot slot test)) = 6 * slot + stage_number test
 
--- what each root lacks
-abbrev pub lacks_of_roots : List Provider → Asked → List (Option Lack)
-lacks_of_roots all asked = map (lack_at all asked) (roots_in_order all)
+-- what each root lacks, of all or of those of an aggregate
+abbrev pub lacks_of_roots : List Provider → Asked → Option ℕ → List (Option Lack)
+lacks_of_roots all asked within = map (lack_at all asked) (roots_within all within)
 
 -- how many of these are this
 abbrev pub count_lacks : List (Option Lack) → Option Lack → ℕ
@@ -54,28 +54,29 @@ count_lacks found lacks = length (filter (λ other. lack_number other == lack_nu
 -- ---- The rows
 
 abbrev pub sum_columns : List (List ℕ)
-sum_columns = codes "hosts" ∷ codes "slot" ∷ codes "lacks" ∷ []
+sum_columns = codes "hosts" ∷ codes "slot" ∷ codes "lacks" ∷ codes "asks" ∷ []
 
 abbrev pub fits_row : ℕ → List (List ℕ)
-fits_row count = decimal count ∷ [] ∷ codes "fits" ∷ []
+fits_row count = decimal count ∷ [] ∷ codes "fits" ∷ [] ∷ []
 
-abbrev pub sum_row : Lack × ℕ → List (List ℕ)
-sum_row sum = decimal sum.1 ∷ slot_shown (Some sum.0) ∷ lack_name (Some sum.0) ∷ []
+-- with what the slot asks that is lacked
+abbrev pub sum_row : Asked → Lack × ℕ → List (List ℕ)
+sum_row asked sum = decimal sum.1 ∷ slot_shown (Some sum.0) ∷ lack_name (Some sum.0) ∷ asks_of asked (Some sum.0) ∷ []
 
 -- some things, each with the number of roots that lack it
 abbrev pub counted : List (Option Lack) → List Lack → List (Lack × ℕ)
 counted found kinds = map (λ kind. (kind, count_lacks found (Some kind))) kinds
 
 -- those that so many roots lack, in their order
-abbrev pub rows_of_count : List (Lack × ℕ) → ℕ → List (List (List ℕ))
-rows_of_count sums count = map sum_row (filter (λ sum. sum.1 == count) sums)
+abbrev pub rows_of_count : Asked → List (Lack × ℕ) → ℕ → List (List (List ℕ))
+rows_of_count asked sums count = map (sum_row asked) (filter (λ sum. sum.1 == count) sums)
 
 -- from those that so many roots lack down to those that one lacks
-abbrev pub rows_falling : List (Lack × ℕ) → ℕ → List (List (List ℕ))
-rows_falling sums most = flat_map (λ i. rows_of_count sums (most - i)) (range_with_len 0 most)
+abbrev pub rows_falling : Asked → List (Lack × ℕ) → ℕ → List (List (List ℕ))
+rows_falling asked sums most = flat_map (λ i. rows_of_count asked sums (most - i)) (range_with_len 0 most)
 
-abbrev pub sum_rows : List (Option Lack) → List Lack → List (List (List ℕ))
-sum_rows found kinds = (sum_columns ∷ fits_row (count_lacks found None) ∷ []) ++ rows_falling (counted found kinds) (length found)
+abbrev pub sum_rows : Asked → List (Option Lack) → List Lack → List (List (List ℕ))
+sum_rows asked found kinds = (sum_columns ∷ fits_row (count_lacks found None) ∷ []) ++ rows_falling asked (counted found kinds) (length found)
 
-unfoldable pub sums_text : List Provider → Asked → List ℕ
-sums_text all asked = flat_map (row_text default_writer) (sum_rows (lacks_of_roots all asked) (possible_lacks (length (slots_of asked))))
+unfoldable pub sums_text : List Provider → Asked → Option ℕ → List ℕ
+sums_text all asked within = flat_map (row_text default_writer) (sum_rows asked (lacks_of_roots all asked within) (possible_lacks (length (slots_of asked))))

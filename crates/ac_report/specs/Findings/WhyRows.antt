@@ -21,10 +21,11 @@ use Rattle.ac_find.specs.declared.lacks.Stage.TheVariants as stage
 use Rattle.ac_find.specs.declared.lacks.Lack.{Lack}
 use Rattle.ac_find.specs.declared.lacks.Lack.TheVariants as lack
 use Rattle.ac_base.specs.Writing.Pieces.{printed}
-use Rattle.ac_find.specs.Details.{aggregates_detail, inventory_detail, room_detail, root_detail, traits_detail, tree_detail, units_detail}
+use Rattle.ac_find.specs.Details.{root_detail}
 use Rattle.ac_find.specs.Unheld.{unheld_detail}
 use Rattle.ac_report.specs.Findings.Asks.{asks_text}
 use Rattle.ac_report.specs.Findings.HostRows.{lack_name, stage_name}
+use Rattle.ac_report.specs.Findings.SlotDetails.{detail_of, nobody_text}
 
 -- the root of a provider's tree, by its place
 abbrev pub root_place : List Provider → ℕ → ℕ
@@ -56,9 +57,6 @@ provider_fields front all p lacks detail = why_fields front (id_text (id_at all 
 abbrev pub nobodys : List Provider → ℕ → List (List ℕ × ℕ) → List (List ℕ × ℕ)
 nobodys all r needs = filter (λ need. not (somebody_there_has_class all r need.0)) needs
 
-unfoldable pub nobody_text : List ℕ → List ℕ
-nobody_text class = class ++ codes ": nobody here"
-
 -- such a class; no provider is named
 abbrev pub nobody_row : List (List ℕ) → List ℕ → List (List ℕ)
 nobody_row front class = why_fields front [] [] (stage_name stage.Inventory) (nobody_text class)
@@ -69,16 +67,6 @@ nobody_rows all r front needs = map (λ need. nobody_row front need.0) (nobodys 
 abbrev pub stage_shown : Option Stage → List ℕ
 stage_shown None = []
 stage_shown (Some failed) = stage_name failed
-
--- of what a provider fails a test of its slot
-abbrev pub detail_of : List Provider → Placed → Option Stage → List ℕ
-detail_of all x None = []
-detail_of all x (Some stage.Inventory) = inventory_detail (provider_at all x.provider) x.slot.needs
-detail_of all x (Some stage.Units) = units_detail (provider_at all x.provider) x.slot.needs
-detail_of all x (Some stage.Traits) = traits_detail (provider_at all x.provider) x.slot.suffix x.slot.group
-detail_of all x (Some stage.Aggregates) = aggregates_detail all x x.slot.group.member_of
-detail_of all x (Some stage.Tree) = tree_detail x.slot.group.in_tree
-detail_of all x (Some stage.Room) = room_detail (provider_at all x.provider) x.slot.needs
 
 -- a provider in a slot of this number: the first of the slot's tests that it fails
 abbrev pub placed_row : List Provider → ℕ → Placed → List (List ℕ)

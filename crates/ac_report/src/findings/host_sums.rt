@@ -1,14 +1,17 @@
 //! How many roots fit, and how many lack what, as `csv` writes it: a header, a row for those that fit, and one for each thing that is
 //! lacking, first for what most roots lack.
-ghost use Rattle.std.specs.Prelude.{◌≡◌, ◌++◌, ◌∷◌, ◌<◌, ◌≤◌, ◌^◌, ℕ, List, [], IfOk, length};
+ghost use Rattle.std.specs.Prelude.{◌≡◌, ◌++◌, ◌∷◌, ◌<◌, ◌≤◌, ◌^◌, ℕ, List, [], IfOk, length, map};
+ghost use Rattle.std.specs.List.{All};
 ghost use Rattle.ac_base.specs.Writing.Rows.{HasRows};
 ghost use Rattle.ac_cloud.specs.Cloud.CloudWorld.{providers_of};
 ghost use Rattle.ac_query.specs.Asked.{slots_of};
 ghost use Rattle.ac_query.specs.Shown.Queries.{asked_of};
-ghost use Rattle.ac_find.specs.Lacking.{lacks_of};
-ghost use Rattle.ac_report.specs.Findings.HostSums.{count_lacks, counted, fits_row, lack_number, lacks_of_roots, lacks_of_slot, possible_lacks, rows_falling, rows_of_count, stage_number, sum_row, sums_text};
+ghost use Rattle.ac_find.specs.Lacking.{lack_at, lacks_of};
+ghost use Rattle.ac_report.specs.Findings.HostSums.{count_lacks, counted, fits_row, lack_number, lacks_of_slot, possible_lacks, rows_falling, rows_of_count, stage_number, sum_row, sums_text};
 
+use crate::findings::host_details::asks_of;
 use crate::findings::lacks::{lack_name, slot_digits};
+use crate::findings::within::roots_within;
 use ac_base::NoMemory;
 use ac_base::pieces::digits::Digits;
 use ac_base::rows::{begin_rows, end_rows, write_row};
@@ -91,23 +94,22 @@ fn possible_lacks(alloc: Global, slots: usize) -> Result<Vec<Lack>, NoMemory>
     Ok(kinds)
 }
 
-// What each root lacks.
-fn lacks_of_roots(
+// What each of some roots lacks.
+fn lacks_at(
     alloc: Global,
     cloud: &Cloud,
     query: &Query,
+    roots: &[u32],
     lacks: &[Option<Lack>],
 ) -> Result<Vec<Option<Lack>>, NoMemory>
-    requires { lacks.now ≡ lacks_of (providers_of cloud.now) (asked_of query.now) }
-    ensures lacks { IfOk result (λ found.
-        found.items ≡ lacks_of_roots (providers_of cloud.now) (asked_of query.now)) }
-    ensures few { IfOk result (λ found. length found.items < 2 ^ 32) }
+    requires roots { All (λ r. r < length (providers_of cloud.now)) roots.now }
+    requires lacks { lacks.now ≡ lacks_of (providers_of cloud.now) (asked_of query.now) }
+    ensures { IfOk result (λ found. found.items
+        ≡ map (lack_at (providers_of cloud.now) (asked_of query.now)) roots.now) }
 {
     let mut found = Vec::new(alloc);
-    for root in 0..cloud.len() {
-        if cloud.available(root, root) {
-            found.push(lacks[root as usize])?;
-        }
+    for root in roots {
+        found.push(lacks[*root as usize])?;
     }
     Ok(found)
 }
@@ -144,37 +146,46 @@ fn write_fits(rows: &mut Writer<Vec<u8>>, count: u32) -> Result<(), NoMemory>
     ensures { IfOk result (λ _. (before : List (List (List ℕ))) → HasRows rows.old before
         → HasRows rows.new (before ++ fits_row count ∷ [])) }
 {
-    write_row(rows, &[Digits::of(count).as_bytes(), b"", b"fits"])
+    write_row(rows, &[Digits::of(count).as_bytes(), b"", b"fits", b""])
 }
 
 // Writes the row of what so many roots lack.
-fn write_sum(rows: &mut Writer<Vec<u8>>, sum: &(Lack, u32)) -> Result<(), NoMemory>
+fn write_sum(
+    alloc: Global,
+    rows: &mut Writer<Vec<u8>>,
+    query: &Query,
+    sum: &(Lack, u32),
+) -> Result<(), NoMemory>
     ensures { IfOk result (λ _. (before : List (List (List ℕ))) → HasRows rows.old before
-        → HasRows rows.new (before ++ sum_row sum.now ∷ [])) }
+        → HasRows rows.new (before ++ sum_row (asked_of query.now) sum.now ∷ [])) }
 {
     let lacks = Some(sum.0);
+    let asks = asks_of(alloc, query, lacks)?;
     write_row(
         rows,
         &[
             Digits::of(sum.1).as_bytes(),
             slot_digits(lacks).as_bytes(),
             lack_name(lacks),
+            &asks,
         ],
     )
 }
 
 // Writes the rows of those of some things that so many roots lack.
 fn write_of_count(
+    alloc: Global,
     rows: &mut Writer<Vec<u8>>,
+    query: &Query,
     sums: &[(Lack, u32)],
     count: u32,
 ) -> Result<(), NoMemory>
     ensures { IfOk result (λ _. (before : List (List (List ℕ))) → HasRows rows.old before
-        → HasRows rows.new (before ++ rows_of_count sums.now count)) }
+        → HasRows rows.new (before ++ rows_of_count (asked_of query.now) sums.now count)) }
 {
     for sum in sums {
         if sum.1 == count {
-            write_sum(rows, sum)?;
+            write_sum(alloc, rows, query, sum)?;
         }
     }
     Ok(())
@@ -182,36 +193,40 @@ fn write_of_count(
 
 // Writes the rows of some things, from those that so many roots lack down to those that one lacks.
 fn write_falling(
+    alloc: Global,
     rows: &mut Writer<Vec<u8>>,
+    query: &Query,
     sums: &[(Lack, u32)],
     most: u32,
 ) -> Result<(), NoMemory>
     ensures { IfOk result (λ _. (before : List (List (List ℕ))) → HasRows rows.old before
-        → HasRows rows.new (before ++ rows_falling sums.now most)) }
+        → HasRows rows.new (before ++ rows_falling (asked_of query.now) sums.now most)) }
 {
     for i in 0..most {
-        write_of_count(rows, sums, most - i)?;
+        write_of_count(alloc, rows, query, sums, most - i)?;
     }
     Ok(())
 }
 
-/// The text of `hosts --sum`, by what each provider lacks as a root.
+/// The text of `hosts --sum` of all roots, or of those of an aggregate alone, by what each provider lacks as a root.
 #[tactic(auto, unfolding(crate::specs::Findings::HostSums::sums_text))]
 pub fn sums_text(
     alloc: Global,
     cloud: &Cloud,
     query: &Query,
+    within: Option<u128>,
     lacks: &[Option<Lack>],
 ) -> Result<Vec<u8>, NoMemory>
     requires { lacks.now ≡ lacks_of (providers_of cloud.now) (asked_of query.now) }
     ensures { IfOk result (λ text.
-        text.items ≡ sums_text (providers_of cloud.now) (asked_of query.now)) }
+        text.items ≡ sums_text (providers_of cloud.now) (asked_of query.now) within) }
 {
-    let found = lacks_of_roots(alloc, cloud, query, lacks)?;
+    let roots = roots_within(alloc, cloud, within)?;
+    let found = lacks_at(alloc, cloud, query, &roots, lacks)?;
     let kinds = possible_lacks(alloc, count_slots(query))?;
     let sums = counted(alloc, &found, &kinds)?;
-    let mut rows = begin_rows(alloc, &[b"hosts", b"slot", b"lacks"])?;
+    let mut rows = begin_rows(alloc, &[b"hosts", b"slot", b"lacks", b"asks"])?;
     write_fits(&mut rows, count_lacks(&found, None))?;
-    write_falling(&mut rows, &sums, found.len() as u32)?;
+    write_falling(alloc, &mut rows, query, &sums, found.len() as u32)?;
     end_rows(rows)
 }

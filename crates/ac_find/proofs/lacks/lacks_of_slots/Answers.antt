@@ -28,7 +28,7 @@ note-requires c =
     let all = providers_of c.args.cloud.now in
     let slots = take c.loop-s.s (slots_of (asked_of c.args.query.now)) in
     let many = ap length (c.deref_mut.ensures.value ∙ c.loop-s.invariant) ∙ length-map-range_with_len (λ r. first_unserved all r 1 slots) 0 (length all) in
-    omega (arith, many, ap length c.deref.ensures.value, c.in_ok-passed.ensures.count)
+    omega (arith, many, ap length c.deref.ensures.value, c.in_ok-ranks.ensures.count)
 
 pub loop-s-preserved : goal.loop-s-preserved
 loop-s-preserved c =
@@ -36,6 +36,6 @@ loop-s-preserved c =
     let were = ap length c.deref_mut.ensures.value in
     let items = with_items_is c.loop-s.lacks c.note.new.lacks (c.note.auto.lacks ∙ omega (arith, were, c.loop-s.lacks.ok)) in
     items
-    ∙ slot_noted all (slots_of (asked_of c.args.query.now)) c.loop-s.s c.in_ok-passed.passed.items c.loop-s.lacks.items c.note.new.lacks
-    (omega (arith, c.loop-s-test.true, c.count_slots-s-end.ensures.count)) c.loop-s.invariant (c.note.auto.lacks ∙ were) c.in_ok-passed.ensures.reached
+    ∙ slot_noted all (slots_of (asked_of c.args.query.now)) c.loop-s.s c.in_ok-ranks.ranks.items c.loop-s.lacks.items c.note.new.lacks
+    (omega (arith, c.loop-s-test.true, c.count_slots-s-end.ensures.count)) c.loop-s.invariant (c.note.auto.lacks ∙ were) c.in_ok-ranks.ensures.small c.in_ok-ranks.ensures.ranks
     (rw (c.deref_mut.ensures.value, c.deref.ensures.value) at c.note.ensures)

@@ -1,15 +1,19 @@
-use Rattle.std.proofs.Common.{◌∙◌, ◌<◌, None, length, slice_index_or, ap, arith}
+use Rattle.std.proofs.Common.{◌≡◌, ◌∙◌, ◌<◌, ℕ, None, length, slice_index, slice_index_or, ap, ap₂, arith}
 use Rattle.std.specs.Option.{option_or}
 use Rattle.std.proofs.lemmas.List.{get_or-set_other, length-set}
-use Rattle.ac_find.proofs.LackingLemmas.{noted_more}
+use Rattle.ac_find.specs.Shown.Lacking.{lack_behind, tests_in}
+use Rattle.ac_find.proofs.LackingLemmas.{set_more}
 use Rattle.ac_find.proofs.lacks.note.Goals as goal
 
 pub loop-r-preserved : goal.loop-r-preserved
 loop-r-preserved c =
-    let low : c.loop-r.r < length c.loop-r.lacks = omega (arith, c.loop-r-test.true, c.loop-r.invariant.count, c.requires) in
-    let is = c.or.ensures ∙ ap (option_or (slice_index_or c.loop-r.lacks c.loop-r.r None)) c.lack_behind.ensures in
+    let i = c.loop-r.r in
+    let low : i < length c.loop-r.lacks = omega (arith, c.loop-r-test.true, c.loop-r.invariant.count, c.requires) in
+    let noted = λ (r : ℕ). option_or (slice_index_or c.args.lacks.now r None) (lack_behind c.args.slot (tests_in (slice_index c.args.ranks.now r))) in
+    let is : c.or.result ≡ noted i =
+    c.or.ensures ∙ ap₂ option_or (c.loop-r.invariant.same i (omega arith)) (c.lack_behind.ensures ∙ ap (lack_behind c.args.slot) c.tests_in.ensures) in
     record {
-      count = length-set c.loop-r.lacks c.loop-r.r c.or.result ∙ c.loop-r.invariant.count;
-      done = noted_more c.args.lacks.now c.loop-r.lacks c.args.slot c.args.passed.now c.loop-r.r c.or.result low is c.loop-r.invariant.done c.loop-r.invariant.same;
-      same = λ r h. get_or-set_other c.loop-r.lacks c.loop-r.r r c.or.result None (λ e. omega (arith, h, e)) ∙ c.loop-r.invariant.same r (omega (arith, h));
+      count = length-set c.loop-r.lacks i c.or.result ∙ c.loop-r.invariant.count;
+      done = set_more noted c.loop-r.lacks i c.or.result None low is c.loop-r.invariant.done;
+      same = λ r h. get_or-set_other c.loop-r.lacks i r c.or.result None (λ e. omega (arith, h, e)) ∙ c.loop-r.invariant.same r (omega (arith, h));
     }

@@ -1,5 +1,5 @@
 //! The rows of slots: the classes that nobody has in the tree of a root, and how far each provider comes there.
-ghost use Rattle.std.specs.Prelude.{◌≡◌, ◌+◌, ◌&&◌, ◌++◌, ◌∷◌, ◌<◌, ℕ, List, [], IfOk, length, map, string_bytes};
+ghost use Rattle.std.specs.Prelude.{◌≡◌, ◌+◌, ◌&&◌, ◌++◌, ◌∷◌, ◌<◌, ℕ, List, [], IfOk, length, map};
 ghost use Rattle.std.specs.List.{list_any};
 ghost use Rattle.ac_base.specs.Writing.Rows.{HasRows};
 ghost use Rattle.ac_cloud.specs.Providers.{provider_of};
@@ -11,33 +11,23 @@ ghost use Rattle.ac_query.specs.Shown.Queries.{asked_of};
 ghost use Rattle.ac_rules.specs.Placed.{slot_at};
 ghost use Rattle.ac_rules.specs.Shown.Assignments.{placed_of};
 ghost use Rattle.ac_find.specs.Explained.{has_inventory};
-ghost use Rattle.ac_report.specs.Findings.WhyRows.{detail_of, has_a_class, nobody_row, nobody_rows, nobody_text, placed_row, provider_rows, rows_of_slots, slot_front, slot_rows, stage_shown};
+ghost use Rattle.ac_report.specs.Findings.WhyRows.{has_a_class, nobody_row, nobody_rows, placed_row, provider_rows, rows_of_slots, slot_front, slot_rows, stage_shown};
 ghost use Rattle.ac_report.specs.Findings.WhyRows.Shown.{front_shown};
 
 use crate::findings::asks::asks_text;
 use crate::findings::lacks::stage_name;
+use crate::findings::slot_details::{detail_of, nobody_text};
 use crate::findings::why_rows::row::{Front, write_fields, write_provider};
 use crate::request::suffix_text;
 use ac_base::NoMemory;
 use ac_base::pieces::digits::Digits;
 use ac_cloud::{Cloud, Provider};
-use ac_find::details::{
-    aggregates_detail, inventory_detail, room_detail, traits_detail, tree_detail, units_detail,
-};
 use ac_find::{Stage, first_failed, has_inventory, somebody_there_has_class};
 use ac_query::{Need, Query};
 use ac_rules::Placed;
 use ac_rules::slots::{count_slots, group_at, needs_at};
 use csv::Writer;
 use std::alloc::Global;
-
-#[tactic(auto, unfolding(crate::specs::Findings::WhyRows::nobody_text))]
-fn nobody_text(alloc: Global, need: &Need) -> Result<String, NoMemory>
-    ensures { IfOk result (λ text. string_bytes text ≡ nobody_text (need_entry need.now).0) }
-{
-    let class = need.class().text();
-    Ok(format!(in alloc; "{class}: nobody here")?)
-}
 
 // Writes the row of a class of which nobody there has an inventory.
 fn write_nobody(
@@ -83,22 +73,6 @@ fn stage_shown(failed: Option<Stage>) -> &'static [u8]
     match failed {
         None => b"",
         Some(stage) => stage_name(stage),
-    }
-}
-
-// The detail of a row: of what the provider fails that test of its slot; nothing where it fails none.
-fn detail_of(alloc: Global, placed: &Placed, failed: Option<Stage>) -> Result<String, NoMemory>
-    ensures { IfOk result (λ text. string_bytes text ≡ detail_of
-        (providers_of placed.now.cloud.now) (placed_of placed.now) failed) }
-{
-    match failed {
-        None => Ok(String::new(alloc)),
-        Some(Stage::Inventory) => inventory_detail(alloc, placed),
-        Some(Stage::Units) => units_detail(alloc, placed),
-        Some(Stage::Traits) => traits_detail(alloc, placed),
-        Some(Stage::Aggregates) => aggregates_detail(alloc, placed),
-        Some(Stage::Tree) => tree_detail(alloc, placed),
-        Some(Stage::Room) => room_detail(alloc, placed),
     }
 }
 

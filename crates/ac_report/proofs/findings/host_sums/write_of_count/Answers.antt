@@ -1,8 +1,9 @@
-use Rattle.std.proofs.Common.{◌≡◌, ◌∙◌, ◌==◌, ℕ, ◌++◌, List, true, false, get_or, take, refl, sym, subst, append-nil, arith}
+use Rattle.std.proofs.Common.{◌≡◌, ◌==◌, ℕ, ◌++◌, List, true, false, get_or, take, refl, sym, subst, append-nil, arith}
 use Rattle.std.proofs.lemmas.List.{take_all}
 use Rattle.std.proofs.lemmas.Bool.Decides.{nat_tests}
 use Rattle.ac_find.specs.declared.lacks.Lack.{Lack}
 use Rattle.ac_find.specs.declared.lacks.Lack.TheVariants.{RootTraits}
+use Rattle.ac_query.specs.Shown.Queries.{asked_of}
 use Rattle.ac_report.specs.Findings.HostSums.{rows_of_count, sum_row}
 use Rattle.ac_base.specs.Writing.Rows.{HasRows}
 use Rattle.ac_report.proofs.FoundTexts.RowsWritten.{behind, item_row, item_without}
@@ -14,6 +15,7 @@ loop-sum-init c = λ before h. subst (HasRows c.args.rows.now) (sym (append-nil 
 
 pub loop-sum-preserved : goal.loop-sum-preserved
 loop-sum-preserved c =
+    let asked = asked_of c.args.query.now in
     let sums = c.args.sums.now in
     let count = c.args.count in
     let test = λ (sum : Lack × ℕ). sum.1 == count in
@@ -23,14 +25,14 @@ loop-sum-preserved c =
     elim c.if-sum-count.branch [
       | then-sum-count+in_ok-write_sum w ↦ λ before h.
           let here : test sum ≡ true = let same = w.if-sum-count.true in grind (arith, nat_tests, same) in
-          rw (w.rows-is, sym (behind before (rows_of_count (take i sums) count) (sum_row sum) _ (item_row sum_row test sums i (RootTraits, 0) sum low refl here)))
+          rw (w.rows-is, sym (behind before (rows_of_count asked (take i sums) count) (sum_row asked sum) _ (item_row (sum_row asked) test sums i (RootTraits, 0) sum low refl here)))
           (w.in_ok-write_sum.ensures _ (c.loop-sum.invariant before h))
       | else-sum-count w ↦ λ before h.
           let away : test sum ≡ false = let other = w.if-sum-count.false in grind (arith, nat_tests, other) in
-          rw (w.rows-is, item_without sum_row test sums i (RootTraits, 0) sum low refl away) (c.loop-sum.invariant before h)
+          rw (w.rows-is, item_without (sum_row asked) test sums i (RootTraits, 0) sum low refl away) (c.loop-sum.invariant before h)
     ]
 
 pub returns : goal.returns
 returns c = λ before h.
-    subst (λ (sums : List (Lack × ℕ)). HasRows c.loop-sum.rows (before ++ rows_of_count sums c.args.count))
+    subst (λ (sums : List (Lack × ℕ)). HasRows c.loop-sum.rows (before ++ rows_of_count (asked_of c.args.query.now) sums c.args.count))
     (take_all c.loop-sum.sum-index c.args.sums.now c.loop-sum-test.false) (c.loop-sum.invariant before h)
