@@ -1,6 +1,6 @@
 -- Where the running service may answer otherwise than the rules: for each heading of docs/DIFFERENCES.md what has to hold of the query and of the
 -- cloud before it can.
-use Rattle.std.specs.Prelude.{ℕ, ◌+◌, ◌-◌, ◌*◌, ◌%◌, ◌==◌, ◌&&◌, ◌||◌, Bool, true, false, not, nat_le, nat_lt, List, [], ◌∷◌, length, Option, None, Some, if◌then◌else◌}
+use Rattle.std.specs.Prelude.{ℕ, ◌+◌, ◌-◌, ◌==◌, ◌&&◌, ◌||◌, Bool, true, false, not, nat_le, nat_lt, List, [], ◌∷◌, length, Option, None, Some, if◌then◌else◌}
 use Rattle.std.specs.List.{list_all, list_any, range_with_len}
 use Rattle.std.specs.Option.{is_none, is_some, unwrap_or}
 use Rattle.std.specs.Str.{bytes_eq}
@@ -12,6 +12,7 @@ use Rattle.ac_cloud.specs.World.{Provider, provider_at, id_at, parent_of, used_o
 use Rattle.ac_rules.specs.Placed.{Placed, slot_at, placed_at}
 use Rattle.ac_rules.specs.Own.{inventory_of, units_fit, traits_fit, aggregates_fit, tree_fits, fits}
 use Rattle.ac_rules.specs.Together.{amount_of, holds, is_empty}
+use Rattle.ac_differences.specs.Doubles.{capacity_by}
 use Rattle.ac_differences.specs.declared.differences.Difference.{Difference}
 use Rattle.ac_differences.specs.declared.differences.Difference.TheVariants as difference
 
@@ -222,32 +223,36 @@ ignores_a_tree all asked =
 
 -- ---- Capacities
 
--- The ratio is no whole number of 64ths, so binary fractions don't hold it exactly; and the capacity is a whole number before it is rounded. So in
--- floating point it may be a little less.
-abbrev pub may_fall_short : InventoryNumbers → Bool
-may_fall_short i = not (i.ratio % 15625 == 0) && ((i.total - i.reserved) * i.ratio % 1000000 == 0)
+-- by a ratio in single precision, as MariaDB has it, the capacity is less
+abbrev pub falls_short : InventoryNumbers → Bool
+falls_short i = nat_lt (capacity_by 24 i) (capacity i)
 
 -- what slots ask of a class
 abbrev pub total_of : List Slot → List ℕ → ℕ
 total_of [] class = 0
 total_of (slot ∷ slots) class = amount_of slot.needs class + total_of slots class
 
--- what is left of such an inventory suffices for an amount, and all slots together ask for all of it
-abbrev pub may_take_last : Option InventoryNumbers → ℕ → ℕ → ℕ → Bool
-may_take_last None used amount total = false
-may_take_last (Some i) used amount total = may_fall_short i && nat_le amount (capacity i - used) && nat_le (capacity i - used) total
+-- of such an inventory an amount has room by the rules, and all slots together ask for more than is left by that ratio
+abbrev pub takes_last : InventoryNumbers → ℕ → ℕ → ℕ → Bool
+takes_last i used amount total = falls_short i && nat_le amount (capacity i - used) && nat_lt (capacity_by 24 i - used) total
 
--- a need of a slot by which that may be at a provider
-abbrev pub takes_last : List Provider → Asked → ℕ → List ℕ × ℕ → Bool
-takes_last all asked p need =
-    may_take_last (inventory_of (provider_at all p) need.0) (used_of (provider_at all p) need.0) need.1 (total_of (slots_of asked) need.0)
+-- an inventory has another capacity by a ratio in double precision, or is such a one
+abbrev pub counts_otherwise : Option InventoryNumbers → ℕ → ℕ → ℕ → Bool
+counts_otherwise None used amount total = false
+counts_otherwise (Some i) used amount total = not (capacity_by 53 i == capacity i) || takes_last i used amount total
 
--- it may give the last unit of one of its slot's classes, and meets the slot's rules
-abbrev pub gives_last : List Provider → Asked → Placed → Bool
-gives_last all asked x = list_any (takes_last all asked x.provider) x.slot.needs && fits all x
+-- that holds of the inventory that a need of a slot takes of a provider
+abbrev pub needs_otherwise : List Provider → Asked → ℕ → List ℕ × ℕ → Bool
+needs_otherwise all asked p need =
+    counts_otherwise (inventory_of (provider_at all p) need.0) (used_of (provider_at all p) need.0) need.1 (total_of (slots_of asked) need.0)
 
-unfoldable pub takes_last_unit : List Provider → Asked → Bool
-takes_last_unit all asked = list_any (λ s. some_provider all asked s (gives_last all asked)) (slot_places asked)
+-- a provider meets its slot's rules, and that holds of one of the slot's needs
+abbrev pub gives_otherwise : List Provider → Asked → Placed → Bool
+gives_otherwise all asked x = list_any (needs_otherwise all asked x.provider) x.slot.needs && fits all x
+
+-- such a provider is there for some slot
+unfoldable pub computes_otherwise : List Provider → Asked → Bool
+computes_otherwise all asked = list_any (λ s. some_provider all asked s (gives_otherwise all asked)) (slot_places asked)
 
 -- ---- The differences
 
@@ -285,5 +290,5 @@ applies all asked difference.TwoMemberOf = meets_in_halves all asked
 applies all asked difference.ForbiddenAggregateOfAnotherTree = lends_beside_forbidden all asked
 applies all asked difference.MemberOfBelowRoot = some_sharing all asked (lends_by_its_root all)
 applies all asked difference.InTreeAndSharing = lends_in_tree all asked
-applies all asked difference.FloatingPoint = takes_last_unit all asked
+applies all asked difference.FloatingPoint = computes_otherwise all asked
 applies all asked difference.TreeOutsideSummaries = gives_no_resources all asked

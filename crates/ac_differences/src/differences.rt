@@ -5,6 +5,7 @@ ghost use Rattle.ac_query.specs.Shown.Queries.{asked_of};
 ghost use Rattle.ac_differences.specs.Differing.{all_differences, applies};
 
 mod asks;
+mod doubles;
 mod fits;
 mod mixes;
 mod shares;
@@ -18,7 +19,7 @@ use self::shares::{
     gives_no_resources, lends_beside_forbidden, lends_in_tree, meets_in_halves, shares_whole_group,
     some_lends_by_its_root, some_lends_from_below,
 };
-use self::steps::takes_last_unit;
+use self::steps::computes_otherwise;
 use ac_cloud::Cloud;
 use ac_query::Query;
 
@@ -49,7 +50,7 @@ pub enum Difference {
     MemberOfBelowRoot,
     /// In the group without a suffix, `in_tree` ends sharing.
     InTreeAndSharing,
-    /// In floating point a capacity may be a little less.
+    /// In floating point a capacity is another.
     FloatingPoint,
     /// The summaries leave out the tree of a provider that gives no resources.
     TreeOutsideSummaries,
@@ -100,7 +101,7 @@ pub fn applies(cloud: &Cloud, query: &Query, difference: Difference) -> bool
         Difference::ForbiddenAggregateOfAnotherTree => lends_beside_forbidden(cloud, query),
         Difference::MemberOfBelowRoot => some_lends_by_its_root(cloud, query),
         Difference::InTreeAndSharing => lends_in_tree(cloud, query),
-        Difference::FloatingPoint => takes_last_unit(cloud, query),
+        Difference::FloatingPoint => computes_otherwise(cloud, query),
         Difference::TreeOutsideSummaries => gives_no_resources(cloud, query),
     }
 }
