@@ -8,7 +8,7 @@ use Rattle.ac_base.specs.Quantities.{InventoryNumbers, capacity}
 use Rattle.ac_query.specs.Pairs.Values.{AggregateRule}
 use Rattle.ac_query.specs.Texts.{has_text}
 use Rattle.ac_query.specs.Asked.{Asked, Group, Slot, slots_of, is_isolated}
-use Rattle.ac_cloud.specs.World.{Provider, provider_at, id_at, parent_of, used_of, is_member, is_root, root_provider, anchors_of}
+use Rattle.ac_cloud.specs.World.{Provider, provider_at, id_at, place_of, root_of, parent_of, used_of, is_member, is_root, root_provider, anchors_of}
 use Rattle.ac_rules.specs.Placed.{Placed, slot_at, placed_at}
 use Rattle.ac_rules.specs.Own.{inventory_of, units_fit, traits_fit, aggregates_fit, tree_fits, fits}
 use Rattle.ac_rules.specs.Together.{amount_of, holds, is_empty}
@@ -150,11 +150,6 @@ shares_whole_group all asked =
     && list_any (λ s. not (is_suffixed asked s)) (slot_places asked)
     && list_all (λ s. is_suffixed asked s || (may_share asked s && is_lent all asked s)) (slot_places asked)
 
--- a sharing provider below a parent, which meets by itself all rules on aggregates
-abbrev pub lends_from_below : List Provider → Placed → Bool
-lends_from_below all x =
-    lends all x && is_some (parent_of all (id_at all x.provider)) && are_met_by (provider_at all x.provider) x.slot.group
-
 -- a sharing provider that meets the rules on aggregates only by its root
 abbrev pub lends_by_its_root : List Provider → Placed → Bool
 lends_by_its_root all x = lends all x && not (are_met_by (provider_at all x.provider) x.slot.group)
@@ -185,6 +180,42 @@ forbids_a_root all asked s rule = rule.forbids && has_root_in all rule.ids && so
 -- a provider, in some slot that the service may fill by sharing, passes a test
 abbrev pub some_sharing : List Provider → Asked → (Placed → Bool) → Bool
 some_sharing all asked test = list_any (λ s. may_share asked s && some_provider all asked s test) (slot_places asked)
+
+-- it gives its slot what this asks, whatever its traits: the service looks at traits only behind its failure
+abbrev pub gives : List Provider → Placed → Bool
+gives all x = units_fit all x && aggregates_fit all x && has_room_alone all x
+
+-- the provider at such a place does, where there is one
+abbrev pub found_gives : List Provider → Asked → ℕ → Option ℕ → Bool
+found_gives all asked s None = false
+found_gives all asked s (Some p) = gives all (placed_at asked s p)
+
+-- the root of a provider does
+abbrev pub root_gives : List Provider → Asked → ℕ → ℕ → Bool
+root_gives all asked s p = found_gives all asked s (place_of all (root_of all (id_at all p)))
+
+-- the slot at a place has no suffix, and neither a provider nor its root gives it what it asks
+abbrev pub is_wanting : List Provider → Asked → ℕ → ℕ → Bool
+is_wanting all asked p s = not (is_suffixed asked s) && not (gives all (placed_at asked s p)) && not (root_gives all asked s p)
+
+-- a sharing provider below a parent does, and meets by itself all rules on aggregates
+abbrev pub gives_from_below : List Provider → Placed → Bool
+gives_from_below all x =
+    lends_out all x.provider
+    && is_some (parent_of all (id_at all x.provider))
+    && gives all x
+    && are_met_by (provider_at all x.provider) x.slot.group
+
+-- Besides, neither it nor its root gives some slot of the group without a suffix what it asks: so its own tree may be none of those that serve that
+-- group.
+abbrev pub lends_from_below : List Provider → Asked → Placed → Bool
+lends_from_below all asked x = gives_from_below all x && list_any (is_wanting all asked x.provider) (slot_places asked)
+
+-- there is one, and each slot without a suffix is given what it asks by some provider
+unfoldable pub fails_from_below : List Provider → Asked → Bool
+fails_from_below all asked =
+    some_sharing all asked (lends_from_below all asked)
+    && list_all (λ s. is_suffixed asked s || some_provider all asked s (gives all)) (slot_places asked)
 
 unfoldable pub lends_beside_forbidden : List Provider → Asked → Bool
 lends_beside_forbidden all asked =
@@ -279,7 +310,7 @@ all_differences =
 unfoldable pub applies : List Provider → Asked → Difference → Bool
 applies all asked difference.AmountsOfTwoGroups = not (is_policy_none asked) && mixes_classes all asked && has_choice all asked
 applies all asked difference.SharedDiskForOneTree = shares_whole_group all asked
-applies all asked difference.SharingProviderWithParent = some_sharing all asked (lends_from_below all)
+applies all asked difference.SharingProviderWithParent = fails_from_below all asked
 applies all asked difference.GroupThatOnlyForbids = list_any (λ g. only_forbids g.1) asked.groups
 applies all asked difference.TreeWithoutResources = ignores_a_tree all asked
 applies all asked difference.PolicyNeeded = is_none asked.policy && has_two_suffixes asked

@@ -5,6 +5,7 @@ ghost use Rattle.ac_query.specs.Shown.Queries.{asked_of};
 ghost use Rattle.ac_differences.specs.Differing.{all_differences, applies};
 
 mod asks;
+mod below;
 mod doubles;
 mod fits;
 mod mixes;
@@ -14,10 +15,11 @@ mod steps;
 use self::asks::{
     has_bare_group, has_contradiction, has_forbidding_group, has_two_suffixes, is_policy_none,
 };
+use self::below::fails_from_below;
 use self::mixes::{has_choice, ignores_a_tree, mixes_classes};
 use self::shares::{
     gives_no_resources, lends_beside_forbidden, lends_in_tree, meets_in_halves, shares_whole_group,
-    some_lends_by_its_root, some_lends_from_below,
+    some_lends_by_its_root,
 };
 use self::steps::computes_otherwise;
 use ac_cloud::Cloud;
@@ -89,7 +91,7 @@ pub fn applies(cloud: &Cloud, query: &Query, difference: Difference) -> bool
             !is_policy_none(query) && mixes_classes(cloud, query) && has_choice(cloud, query)
         }
         Difference::SharedDiskForOneTree => shares_whole_group(cloud, query),
-        Difference::SharingProviderWithParent => some_lends_from_below(cloud, query),
+        Difference::SharingProviderWithParent => fails_from_below(cloud, query),
         Difference::GroupThatOnlyForbids => has_forbidding_group(query),
         Difference::TreeWithoutResources => ignores_a_tree(cloud, query),
         Difference::PolicyNeeded => query.policy().is_none() && has_two_suffixes(query),

@@ -9,7 +9,7 @@ ghost use Rattle.ac_query.specs.Shown.Queries.{asked_of};
 ghost use Rattle.ac_rules.specs.Own.{fits};
 ghost use Rattle.ac_rules.specs.Placed.{placed_at};
 ghost use Rattle.ac_rules.specs.Shown.Assignments.{placed_of};
-ghost use Rattle.ac_differences.specs.Differing.{are_met_by, fits_outside, fits_with_its_root, has_room_alone, has_to_lend, is_lent, is_met_by, is_served_together, lends, lends_by_its_root, lends_from_below, lends_out, lends_outside, serves, serves_among_others, some_provider};
+ghost use Rattle.ac_differences.specs.Differing.{are_met_by, fits_outside, fits_with_its_root, gives, gives_from_below, has_room_alone, has_to_lend, is_lent, is_met_by, is_served_together, lends, lends_by_its_root, lends_out, lends_outside, serves, serves_among_others, some_provider};
 
 use ac_cloud::{Cloud, Provider};
 use ac_query::{AggregateRule, Group, Query};
@@ -152,12 +152,21 @@ fn is_met_by_root(placed: &Placed) -> bool
     are_met_by_root(&placed.its_provider(), placed.group())
 }
 
-/// Whether a sharing provider below a parent serves its slot, and meets the rules on aggregates by its own.
-pub(crate) fn lends_from_below(placed: &Placed) -> bool
-    ensures { result
-        ≡ lends_from_below (providers_of placed.now.cloud.now) (placed_of placed.now) }
+/// Whether a provider gives its slot what this asks, whatever its traits.
+pub(crate) fn gives(placed: &Placed) -> bool
+    ensures { result ≡ gives (providers_of placed.now.cloud.now) (placed_of placed.now) }
 {
-    lends(placed) && placed.its_provider().has_parent() && is_met_itself(placed)
+    placed.has_units() && placed.has_aggregates() && has_room_alone(placed)
+}
+
+/// Whether a provider below a parent shares with other trees, gives its slot what this asks, and meets the rules on aggregates by its own.
+pub(crate) fn gives_from_below(placed: &Placed) -> bool
+    ensures { result ≡ gives_from_below (providers_of placed.now.cloud.now) (placed_of placed.now) }
+{
+    lends_out(placed)
+        && placed.its_provider().has_parent()
+        && gives(placed)
+        && is_met_itself(placed)
 }
 
 /// Whether a sharing provider serves its slot, but meets the rules on aggregates only by its root.

@@ -9,12 +9,10 @@ ghost use Rattle.ac_query.specs.Asked.{slots_of};
 ghost use Rattle.ac_query.specs.Shown.Groups.{rule_shown};
 ghost use Rattle.ac_query.specs.Shown.Queries.{asked_of};
 ghost use Rattle.ac_rules.specs.Placed.{slot_at};
-ghost use Rattle.ac_differences.specs.Differing.{fits_with_its_root, forbids_a_root, gives_no_resources, has_root_in, has_to_lend, is_bare_slot, is_lent, is_suffixed, lends_beside_forbidden, lends_by_its_root, lends_from_below, lends_in_tree, lends_outside, may_share, meets_in_halves, shares_whole_group, slot_places, some_provider, some_sharing};
+ghost use Rattle.ac_differences.specs.Differing.{fits_with_its_root, forbids_a_root, gives_no_resources, has_root_in, has_to_lend, is_bare_slot, is_lent, is_suffixed, lends_beside_forbidden, lends_by_its_root, lends_in_tree, lends_outside, may_share, meets_in_halves, shares_whole_group, slot_places, some_provider, some_sharing};
 
 use super::asks::has_suffix_before;
-use super::fits::{
-    fits_with_its_root, has_to_lend, is_lent, lends_by_its_root, lends_from_below, lends_outside,
-};
+use super::fits::{fits_with_its_root, has_to_lend, is_lent, lends_by_its_root, lends_outside};
 use ac_cloud::{Cloud, Provider};
 use ac_query::{AggregateRule, Query};
 use ac_rules::Placed;
@@ -37,8 +35,8 @@ fn names_a_tree(query: &Query, s: usize) -> bool
     group_at(query, s).in_tree().is_some()
 }
 
-// Whether a slot is one that the service may fill from another tree: without a suffix, and without `in_tree`.
-fn may_share(query: &Query, s: usize) -> bool
+/// Whether a slot is one that the service may fill from another tree: without a suffix, and without `in_tree`.
+pub(crate) fn may_share(query: &Query, s: usize) -> bool
     requires { s < length (slots_of (asked_of query.now)) }
     ensures { result ≡ may_share (asked_of query.now) s }
 {
@@ -83,25 +81,6 @@ pub(crate) fn shares_whole_group(cloud: &Cloud, query: &Query) -> bool
     has_suffix_before(query, count_slots(query))
         && has_unsuffixed(query)
         && are_left_to_share(cloud, query)
-}
-
-// Whether some sharing provider below a parent serves a slot.
-#[tactic(auto, using(ac_cloud::proofs::Ranges::range_more, ac_cloud::proofs::Ranges::range_end))]
-fn is_lent_from_below(cloud: &Cloud, query: &Query, s: usize) -> bool
-    requires { s < length (slots_of (asked_of query.now)) }
-    ensures { result ≡ some_provider (providers_of cloud.now) (asked_of query.now) s
-        (lends_from_below (providers_of cloud.now)) }
-{
-    (0..cloud.len()).any(|ix| lends_from_below(&Placed::new(cloud, query, s, ix)))
-}
-
-/// Whether some sharing provider below a parent serves a slot that the service may fill from another tree.
-#[tactic(auto, using(ac_cloud::proofs::Ranges::range_more, ac_cloud::proofs::Ranges::range_end))]
-pub(crate) fn some_lends_from_below(cloud: &Cloud, query: &Query) -> bool
-    ensures { result ≡ some_sharing (providers_of cloud.now) (asked_of query.now)
-        (lends_from_below (providers_of cloud.now)) }
-{
-    (0..count_slots(query)).any(|s| may_share(query, s) && is_lent_from_below(cloud, query, s))
 }
 
 // Whether some sharing provider serves a slot, but meets the rules on aggregates only by its root.
