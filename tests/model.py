@@ -194,6 +194,18 @@ def serving(suffix, needs, query, cloud):
     yield [provider for provider in left if has_room(provider, needs)]
 
 
+def class_told(name, needs, fitting, room):
+    """What is told of a class of a slot, by the providers that meet its rules and how many of them have room for all that it asks."""
+    if len(needs) > 1 and room < len(fitting):
+        yield f'{name} {sum(has_room(provider, {name: needs[name]}) for provider in fitting)}'
+    if fitting and not room:
+        yield f'largest left {max(left_of(provider.has[name]) for provider in fitting)}'
+
+
+def left_of(has):
+    return max(has.capacity() - has.used, 0)
+
+
 def explanation(found, query, cloud):
     told, served = [], []
     for number, (suffix, needs) in enumerate(query.slots(), 1):
@@ -201,9 +213,9 @@ def explanation(found, query, cloud):
         served.append((suffix, last))
         units, traits, aggregates, tree, room = map(len, left)
         fitting = left[3]
-        each = ', '.join(f'{name} {sum(has_room(provider, {name: needs[name]}) for provider in fitting)}' for name in sorted(needs))
+        by_class = [name_told for name in sorted(needs) for name_told in class_told(name, needs, fitting, room)]
         told.append(f'slot {number} "{suffix}"{" " * bool(needs)}{asks(needs)}: units {units} of {len(cloud)}, traits {traits}, aggregates {aggregates}, '
-                    f'tree {tree}, room {room}' + (f' ({each})' if len(needs) > 1 and room < tree else ''))
+                    f'tree {tree}, room {room}' + (f' ({", ".join(by_class)})' if by_class else ''))
     roots = [root for root in cloud if root.root() is root]
     taken = [root for root in roots if takes(root, query)]
     whole = [root for root in taken if all(any(available(provider, root, cloud) for provider in last) for _, last in served)]
@@ -213,7 +225,7 @@ def explanation(found, query, cloud):
     told += nobody(query, cloud)
     told.append(f'candidates: {"some" if found else "none"}')
     if not found:
-        told += [f'without {name}: {"some" if has_candidate(other, cloud) else "none"}' for name, other in without(query)]
+        told += [f'{name}: {"some" if has_candidate(other, cloud) else "none"}' for name, other in without(query)]
         told.append(f'because {reason(query, cloud, taken, whole, held)}')
     told += [difference_line(words) for words, concerns in zip(headings(), concerned(query, cloud), strict=True) if concerns and (found or words in ADDING)]
     return ''.join(line + '\n' for line in told)
@@ -245,12 +257,12 @@ def has_candidate(query, cloud):
 def without(query):
     """The query without each thing that it asks of several slots together, behind the name of that."""
     for place, listed in enumerate(query.subtrees):
-        yield f'same_subtree={",".join(sorted(listed))}', replace(query, subtrees=query.subtrees[:place] + query.subtrees[place + 1:])
+        yield f'without same_subtree={",".join(sorted(listed))}', replace(query, subtrees=query.subtrees[:place] + query.subtrees[place + 1:])
     if query.isolate:
-        yield 'group_policy=isolate', replace(query, isolate=False)
+        yield 'with group_policy=none', replace(query, isolate=False)
     plain = query.groups.get('')
     if plain and (plain.required or plain.any_of):
-        yield 'required', replace(query, groups={**query.groups, '': replace(plain, required=set(), any_of=[])})
+        yield 'without required', replace(query, groups={**query.groups, '': replace(plain, required=set(), any_of=[])})
 
 
 def nobody(query, cloud):
@@ -482,7 +494,7 @@ def detail(provider, suffix, needs, stage, text, query):
     if stage == 'room':
         name = next(name for name in sorted(needs) if not has_room(provider, {name: needs[name]}))
         has = provider.has[name]
-        return f'{name}: {max(has.capacity() - has.used, 0)} of {has.capacity()} left'
+        return f'{name}: {left_of(has)} of {has.capacity()} left'
     return ''
 
 
@@ -524,8 +536,7 @@ def broken_detail(assignment, rule, text, query, cloud):
                 has = provider.has[name]
                 taken = sum(more.get(name, 0) for _, other, _, more in placed if other is provider)
                 if taken > has.max_unit or has.used + taken > has.capacity():
-                    left = max(has.capacity() - has.used, 0)
-                    return f'{name} on {provider.name}, {left} of {has.capacity()} left, max_unit {has.max_unit}, {taken} asked'
+                    return f'{name} on {provider.name}, {left_of(has)} of {has.capacity()} left, max_unit {has.max_unit}, {taken} asked'
     if rule == 'Isolate':
         apart = [(number, provider) for number, provider, suffix, needs in placed if suffix and needs]
         return next(f'slots {one} and {other} on {provider.name}' for (one, provider), (other, same) in itertools.combinations(apart, 2) if same is provider)

@@ -1,12 +1,12 @@
 """Clouds on which a search tries many choices, unless it looks ahead; each answer follows from the rules. The program must answer each within two seconds of
-processor time and 1 GiB of memory, and all questions of a session about it together, with the reading."""
+processor time and 1 GiB of memory, and all questions of a session about it together, with the reading, within four."""
 from __future__ import annotations
 
 from cases import Case
 from large import ids, star
 from notation import HEADERS, provider
 
-LIMITED = 'ulimit -v 1048576; ulimit -t 2; exec "$@"'
+LIMITED = 'ulimit -v 1048576; ulimit -t {}; exec "$@"'
 
 
 def inventories(rows):
@@ -239,19 +239,18 @@ ASKED = [
 
 
 def questions(cloud, query):
-    """A line for each kind of question about a query. To fill disks that all share takes too long: a disk that is full is passed over in each group again;
-    and so it takes to explain a thousand forbidden aggregates, which are asked of each class again."""
+    """A line for each kind of question about a query. To fill disks that all share takes too long: a disk that is full is passed over in each group again."""
     few = query if 'limit=' in query else f'{query}&limit=1000'
     fill = [] if cloud is ALL_SHARE else [f'fill {few}']
-    explain = [] if query is FORBIDDEN else [f'explain {query}', f'hosts {query}']
-    return ''.join(f'{question}\n' for question in (f'tokens {few}', f'candidates {few}', f'list {few}', *explain, f'why {query} {provider(1)}', *fill))
+    return ''.join(f'{question}\n' for question in (f'tokens {few}', f'candidates {few}', f'list {few}', f'explain {query}', f'hosts {query}',
+                                                    f'why {query} {provider(1)}', *fill))
 
 
 def cliffs(program):
     """The cases, each of which runs this program."""
-    limited = ['sh', '-c', LIMITED, 'limited', program]
+    limited, limited_twice = (['sh', '-c', LIMITED.format(seconds), 'limited', program] for seconds in (2, 4))
     for name, cloud, words, made in ASKED:
-        yield Case(f'all questions: {name}', [*limited, 'session'], None, tables=cloud, given=questions(cloud, words[-1]).encode())
+        yield Case(f'all questions: {name}', [*limited_twice, 'session'], None, tables=cloud, given=questions(cloud, words[-1]).encode())
         if isinstance(made, int):
             yield Case(f'looked ahead: {name}', [*limited, *words], None, status=made, tables=cloud)
         else:

@@ -1,5 +1,5 @@
 -- Counts of providers and of roots: one more place, and what the marks of roots say.
-use Rattle.std.proofs.Common.{inl, inr, ◌≡◌, ◌∙◌, ◌<◌, ◌≤◌, ℕ, ◌+◌, Bool, true, false, ◌&&◌, List, [], ◌∷◌, length, map, nat_le, slice_index, slice_index_or, Option, Some, None, refl, sym, ap, ap₂, arith}
+use Rattle.std.proofs.Common.{inl, inr, ◌≡◌, ◌∙◌, ◌<◌, ◌≤◌, ℕ, ◌+◌, Bool, true, false, ◌&&◌, List, [], ◌∷◌, length, map, max, nat_le, slice_index, slice_index_or, Option, Some, None, refl, sym, ap, ap₂, arith}
 use Rattle.std.specs.Prelude.{if◌then◌else◌, take}
 use Rattle.std.specs.List.{filter, list_all, list_any, range_with_len, AllByRecursion as Each}
 use Rattle.std.specs.Option.{is_some}
@@ -8,12 +8,13 @@ use Rattle.std.proofs.lemmas.Bool.{cases_Bool, false≢true}
 use Rattle.std.proofs.lemmas.Bool.Decides.{nat_tests}
 use Rattle.std.proofs.lemmas.List.{length-append}
 use Rattle.std.proofs.lemmas.List.Folds.{list_all_more}
-use Rattle.std.proofs.lemmas.List.FromFn.{fill_by_all, get_or-map-range_with_len, length-map-range_with_len, length-range_with_len}
+use Rattle.std.proofs.lemmas.List.FromFn.{fill_by_all, get_or-map-range_with_len, length-map-range_with_len, length-range_with_len, map-range_with_len_more}
+use Rattle.std.proofs.lemmas.List.Sums.{fold-append}
 use Rattle.ac_base.specs.Quantities.{InventoryNumbers}
 use Rattle.ac_query.specs.Asked.{Asked, Slot, slots_of}
-use Rattle.ac_cloud.specs.World.{Provider, is_available_at, provider_at}
+use Rattle.ac_cloud.specs.World.{Provider, is_available_at, left_of, provider_at, used_of}
 use Rattle.ac_prune.specs.Ahead.{load_of, hosts_of}
-use Rattle.ac_find.specs.Explained.{class_room, count_below, count_of, has_inventories, has_inventory, in_slot, is_served, meets_room, meets_tree}
+use Rattle.ac_find.specs.Explained.{class_room, count_below, count_of, greatest_of, has_inventories, has_inventory, in_slot, is_served, left_to, meets_room, meets_tree, most_left}
 use Rattle.ac_find.specs.Shown.Explained.{fitting, marked, served, served_roots}
 use Rattle.ac_prune.specs.Loads.{AreLimited}
 use Rattle.ac_rules.specs.Own.{admits, inventory_of, units_fit}
@@ -62,6 +63,26 @@ class_marked all slot need marks are =
     ap length (filter_agree (λ p. slice_index_or marks p false && holds (provider_at all p) need.0 need.1) (λ p. meets p && holds (provider_at all p) need.0 need.1) (range_with_len 0 n)
     (each_weaker (λ p. p < n) _ (range_with_len 0 n)
     (λ p low. ap (λ b. b && holds (provider_at all p) need.0 need.1) (ap (λ (bs : List Bool). slice_index_or bs p false) are ∙ get_or-map-range_with_len meets 0 n p p false low (omega arith)))
+    (each_range 0 n n (omega arith))))
+
+-- one more place
+pub greatest_more : (f : ℕ → ℕ) (n : ℕ) → greatest_of (map f (range_with_len 0 (n + 1))) ≡ max (greatest_of (map f (range_with_len 0 n))) (f n)
+greatest_more f n = ap greatest_of (map-range_with_len_more f 0 n n (omega arith)) ∙ fold-append max 0 (map f (range_with_len 0 n)) (f n ∷ [])
+
+map_agree : {X Y : Type 0} (f g : X → Y) (xs : List X) → Each (λ x. f x ≡ g x) xs → map f xs ≡ map g xs
+map_agree f g [] h = refl
+map_agree f g (x ∷ xs) h = ap₂ (λ y ys. y ∷ ys) h.0 (map_agree f g xs h.1)
+
+-- by the same marks
+pub left_marked : (all : List Provider) (slot : Slot) (need : List ℕ × ℕ) (marks : List Bool) → marks ≡ fitting all slot
+    → greatest_of (map (λ p. if slice_index_or marks p false then left_of (inventory_of (provider_at all p) need.0) (used_of (provider_at all p) need.0) else 0) (range_with_len 0 (length all)))
+    ≡ most_left all slot need
+left_marked all slot need marks are =
+    let n = length all in
+    ap greatest_of (map_agree (λ p. if slice_index_or marks p false then left_of (inventory_of (provider_at all p) need.0) (used_of (provider_at all p) need.0) else 0) (left_to all slot need.0) (range_with_len 0 n)
+    (each_weaker (λ p. p < n) _ (range_with_len 0 n)
+    (λ p low. ap (λ b. if b then left_of (inventory_of (provider_at all p) need.0) (used_of (provider_at all p) need.0) else 0)
+    (ap (λ (bs : List Bool). slice_index_or bs p false) are ∙ get_or-map-range_with_len (λ p. meets_tree all (in_slot slot p)) 0 n p p false low (omega arith)))
     (each_range 0 n n (omega arith))))
 
 -- ---- Marks of roots

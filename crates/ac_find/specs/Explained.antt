@@ -1,10 +1,10 @@
 -- How far a query comes: of each slot how many providers meet its rules, one after another, and how many roots have one for each slot, and
 -- the traits that the group without a suffix requires.
-use Rattle.std.specs.Prelude.{ℕ, Bool, ◌&&◌, ◌||◌, if◌then◌else◌, nat_lt, List, [], length, map}
-use Rattle.std.specs.List.{list_all, list_any, filter, range_with_len}
+use Rattle.std.specs.Prelude.{ℕ, ◌==◌, Bool, ◌&&◌, ◌||◌, if◌then◌else◌, nat_lt, List, [], length, map, max}
+use Rattle.std.specs.List.{fold, list_all, list_any, filter, range_with_len}
 use Rattle.std.specs.Option.{is_none, is_some}
 use Rattle.ac_query.specs.Asked.{Asked, Group, Slot, slots_of}
-use Rattle.ac_cloud.specs.World.{Provider, provider_at, id_at, has_trait, is_root}
+use Rattle.ac_cloud.specs.World.{Provider, provider_at, id_at, has_trait, is_root, left_of, used_of}
 use Rattle.ac_rules.specs.Placed.{Placed}
 use Rattle.ac_rules.specs.Own.{inventory_of, units_fit, traits_fit, aggregates_fit, tree_fits, has_any}
 use Rattle.ac_rules.specs.Together.{holds, takes_root}
@@ -79,13 +79,34 @@ is_short all slot = nat_lt 1 (length slot.needs) && nat_lt (slot_counts all slot
 abbrev pub class_rooms : List Provider → Slot → List ℕ
 class_rooms all slot = if is_short all slot then map (class_room all slot) slot.needs else []
 
+-- how much of a class is left to a provider that meets all but room; 0 to others
+abbrev pub left_to : List Provider → Slot → List ℕ → ℕ → ℕ
+left_to all slot class p = if meets_tree all (in_slot slot p) then left_of (inventory_of (provider_at all p) class) (used_of (provider_at all p) class) else 0
+
+-- the greatest of some numbers, 0 where there is none
+abbrev pub greatest_of : List ℕ → ℕ
+greatest_of numbers = fold max 0 numbers
+
+-- the most that is left of a class of the slot to one of those that meet all but room
+abbrev pub most_left : List Provider → Slot → List ℕ × ℕ → ℕ
+most_left all slot need = greatest_of (map (left_to all slot need.0) (range_with_len 0 (length all)))
+
+-- some provider meets all but room, and none has room
+abbrev pub is_full : List Provider → Slot → Bool
+is_full all slot = (slot_counts all slot).room == 0 && nat_lt 0 (slot_counts all slot).tree
+
+-- of such a slot the most that is left of each class, in the order of classes; of others nothing
+abbrev pub class_lefts : List Provider → Slot → List ℕ
+class_lefts all slot = if is_full all slot then map (most_left all slot) slot.needs else []
+
 -- what is told of a slot
 pub record SlotTold : Type 0 where
   pub counts : SlotCounts
   pub rooms : List ℕ
+  pub lefts : List ℕ
 
 abbrev pub slot_told : List Provider → Slot → SlotTold
-slot_told all slot = record { counts = slot_counts all slot; rooms = class_rooms all slot }
+slot_told all slot = record { counts = slot_counts all slot; rooms = class_rooms all slot; lefts = class_lefts all slot }
 
 -- ---- Counts of roots
 

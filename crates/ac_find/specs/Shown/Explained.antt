@@ -15,7 +15,7 @@ abbrev pub slot_counted : slot.SlotCounts → SlotCounts
 slot_counted c = record { units = c.units; traits = c.traits; aggregates = c.aggregates; tree = c.tree; room = c.room }
 
 abbrev pub slot_shown : told.SlotTold → SlotTold
-slot_shown t = record { counts = slot_counted t.counts; rooms = t.rooms.items }
+slot_shown t = record { counts = slot_counted t.counts; rooms = t.rooms.items; lefts = t.lefts.items }
 
 -- which providers meet all but room
 abbrev pub fitting : List Provider → Slot → List Bool

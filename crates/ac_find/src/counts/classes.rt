@@ -1,14 +1,16 @@
 //! What is told of each slot: its counts, and by class, where it has several, how many providers have room.
 
-ghost use Rattle.std.specs.Prelude.{◌≡◌, ◌<◌, ◌&&◌, IfOk, length, map, nat_lt, slice_index_or, false};
+ghost use Rattle.std.specs.Prelude.{◌≡◌, ◌<◌, ◌&&◌, IfOk, length, map, nat_lt, slice_index_or, false, if◌then◌else◌};
+ghost use Rattle.std.specs.List.{range_with_len};
 ghost use Rattle.ac_cloud.specs.Cloud.CloudWorld.{providers_of};
-ghost use Rattle.ac_cloud.specs.World.{provider_at};
+ghost use Rattle.ac_cloud.specs.World.{left_of, provider_at, used_of};
 ghost use Rattle.ac_query.specs.Asked.{slots_of};
 ghost use Rattle.ac_query.specs.Shown.Groups.{need_entry};
 ghost use Rattle.ac_query.specs.Shown.Queries.{asked_of};
+ghost use Rattle.ac_rules.specs.Own.{inventory_of};
 ghost use Rattle.ac_rules.specs.Placed.{slot_at};
 ghost use Rattle.ac_rules.specs.Together.{holds};
-ghost use Rattle.ac_find.specs.Explained.{class_room, class_rooms, count_of, slot_counts, slot_told};
+ghost use Rattle.ac_find.specs.Explained.{class_lefts, class_room, class_rooms, count_of, greatest_of, most_left, slot_counts, slot_told};
 ghost use Rattle.ac_find.specs.Shown.Explained.{fitting, slot_counted, slot_shown};
 
 use super::{SlotCounts, meets_rules, slot_counts};
@@ -27,6 +29,8 @@ pub struct SlotTold {
     /// Where the slot has several classes, and not all have room that meet its rules: of these, how many have room for each
     /// class by itself, in the order of classes. Else nothing.
     pub rooms: Vec<u32>,
+    /// Where some meet its rules and none has room: the most that one of them has left of each class, in the order of classes. Else nothing.
+    pub lefts: Vec<u64>,
 }
 
 // Which providers meet the rules of a slot.
@@ -109,6 +113,73 @@ fn rooms_of(
     count_rooms(alloc, cloud, query, s)
 }
 
+// How much of a class is left to a provider that is marked; 0 to others.
+fn left_marked(cloud: &Cloud, marks: &[bool], ix: u32, need: &Need) -> u64
+    requires marks { length marks.now ≡ length (providers_of cloud.now) }
+    requires provider { ix < length (providers_of cloud.now) }
+    ensures { result ≡ (if slice_index_or marks.now ix false
+        then left_of (inventory_of (provider_at (providers_of cloud.now) ix) (need_entry need.now).0)
+        (used_of (provider_at (providers_of cloud.now) ix) (need_entry need.now).0) else 0) }
+{
+    if marks[ix as usize] {
+        cloud.provider(ix).left(need.class())
+    } else {
+        0
+    }
+}
+
+// The most that is left of a class to one of the marked providers.
+fn most_left(cloud: &Cloud, marks: &[bool], need: &Need) -> u64
+    requires { length marks.now ≡ length (providers_of cloud.now) }
+    ensures { result ≡ greatest_of (map
+        (λ p. if slice_index_or marks.now p false
+        then left_of (inventory_of (provider_at (providers_of cloud.now) p) (need_entry need.now).0)
+        (used_of (provider_at (providers_of cloud.now) p) (need_entry need.now).0) else 0)
+        (range_with_len 0 (length (providers_of cloud.now)))) }
+{
+    let mut most = 0;
+    for ix in 0..cloud.len() {
+        most = most.max(left_marked(cloud, marks, ix, need));
+    }
+    most
+}
+
+// The most that is left of each class of a slot to one of those that meet its rules.
+fn find_most(alloc: Global, cloud: &Cloud, query: &Query, s: usize) -> Result<Vec<u64>, NoMemory>
+    requires { s < length (slots_of (asked_of query.now)) }
+    ensures { IfOk result (λ lefts. lefts.items
+        ≡ map (most_left (providers_of cloud.now) (slot_at (asked_of query.now) s))
+        (slot_at (asked_of query.now) s).needs) }
+{
+    let marks = fitting(alloc, cloud, query, s)?;
+    let mut lefts = Vec::new(alloc);
+    for need in needs_at(query, s) {
+        lefts.push(most_left(cloud, &marks, need))?;
+    }
+    Ok(lefts)
+}
+
+// The most that is left of each class of a slot, where some provider meets its rules and none has room; else nothing.
+fn lefts_of(
+    alloc: Global,
+    cloud: &Cloud,
+    query: &Query,
+    s: usize,
+    counts: &SlotCounts,
+) -> Result<Vec<u64>, NoMemory>
+    requires slot { s < length (slots_of (asked_of query.now)) }
+    requires counts { slot_counted counts.now
+        ≡ slot_counts (providers_of cloud.now) (slot_at (asked_of query.now) s) }
+    ensures { IfOk result (λ lefts. lefts.items
+        ≡ class_lefts (providers_of cloud.now) (slot_at (asked_of query.now) s)) }
+{
+    if counts.room == 0 && counts.tree > 0 {
+        find_most(alloc, cloud, query, s)
+    } else {
+        Ok(Vec::new(alloc))
+    }
+}
+
 // What is told of a slot.
 fn tell_slot(alloc: Global, cloud: &Cloud, query: &Query, s: usize) -> Result<SlotTold, NoMemory>
     requires { s < length (slots_of (asked_of query.now)) }
@@ -117,7 +188,12 @@ fn tell_slot(alloc: Global, cloud: &Cloud, query: &Query, s: usize) -> Result<Sl
 {
     let counts = slot_counts(cloud, query, s);
     let rooms = rooms_of(alloc, cloud, query, s, &counts)?;
-    Ok(SlotTold { counts, rooms })
+    let lefts = lefts_of(alloc, cloud, query, s, &counts)?;
+    Ok(SlotTold {
+        counts,
+        rooms,
+        lefts,
+    })
 }
 
 /// What is told of each slot.

@@ -1,12 +1,11 @@
 -- An explanation, need by need and slot by slot.
-use Rattle.std.proofs.Common.{inl, inr, ◌≡◌, ◌∙◌, ℕ, suc, ◌+◌, ◌-◌, ◌<◌, ◌≤◌, ◌==◌, Bool, List, [], ◌∷◌, ◌++◌, get_or, length, map, Option, refl, rules, subst, sym, ap, arith}
+use Rattle.std.proofs.Common.{◌≡◌, ◌∙◌, ℕ, suc, ◌+◌, ◌-◌, ◌<◌, ◌==◌, Bool, List, [], ◌∷◌, ◌++◌, get_or, length, map, Option, refl, rules, subst, sym, ap, arith}
 use Rattle.std.specs.List.{flat_map, position, position_or_len, range_with_len}
-use Rattle.std.proofs.lemmas.Bool.{cases_Bool}
 use Rattle.std.proofs.lemmas.List.{get_or-map, length-map}
-use Rattle.ac_query.specs.Asked.{Asked, Slot, slots_of}
+use Rattle.ac_query.specs.Asked.{Asked, slots_of}
 use Rattle.ac_cloud.specs.World.{Provider}
 use Rattle.ac_rules.specs.Placed.{no_slot, slot_at}
-use Rattle.ac_find.specs.Explained.{SlotTold, class_room, is_short, slot_told}
+use Rattle.ac_find.specs.Explained.{SlotTold, slot_told}
 use Rattle.ac_find.specs.Shown.Explained.{slot_shown}
 use Rattle.ac_find.specs.declared.counts.classes.SlotTold as rust
 use Rattle.std.specs.Prelude.{Result, Ok, Err}
@@ -49,13 +48,6 @@ module _ (all : List Provider) (asked : Asked) (slots : List rust.SlotTold) (s :
   told_at =
       sym (get_or-map slot_shown slots s d (slot_shown d) h)
       ∙ (ap (λ told. get_or told s (slot_shown d)) are ∙ get_or-map (slot_told all) (slots_of asked) s no_slot (slot_shown d) told_low)
-
--- no more rooms than classes
-pub rooms_few : (all : List Provider) (slot : Slot) → length (slot_told all slot).rooms ≤ length slot.needs
-rooms_few all slot = elim (cases_Bool (is_short all slot)) [
-  | inl e ↦ rw e (omega (arith, length-map slot.needs (class_room all slot)))
-  | inr e ↦ rw e (omega arith)
-]
 
 -- ---- the first slot that no provider serves
 

@@ -4,7 +4,7 @@ pub mod Candidates
 pub mod Differing
 pub mod Nobody
 pub mod Shown
-use Rattle.std.specs.Prelude.{ℕ, ◌+◌, ◌==◌, Bool, true, false, if◌then◌else◌, List, [], ◌∷◌, ◌++◌, get_or, length, map, codes, position, Option, None, Some}
+use Rattle.std.specs.Prelude.{ℕ, ◌+◌, ◌==◌, Bool, ◌&&◌, true, false, if◌then◌else◌, List, [], ◌∷◌, ◌++◌, get_or, length, map, nat_lt, codes, position, Option, None, Some}
 use Rattle.std.specs.Fmt.{decimal}
 use Rattle.std.specs.List.{flat_map, range_with_len}
 use Rattle.ac_query.specs.Asked.{Asked, Slot, slots_of}
@@ -39,17 +39,34 @@ room_mark k = if k == 0 then codes " (" else codes ", "
 unfoldable pub room_text : List ℕ → List ℕ → ℕ → List ℕ
 room_text mark class room = said (mark ∷ class ∷ codes " " ∷ decimal room ∷ [])
 
--- each class with its room, where it is told
-abbrev pub each_room : List (List ℕ × ℕ) → List ℕ → List ℕ
-each_room needs rooms = flat_map (λ k. room_text (room_mark k) (get_or needs k ([], 0)).0 (get_or rooms k 0)) (range_with_len 0 (length rooms))
+-- the most that is left of a class, behind a mark
+unfoldable pub left_text : List ℕ → ℕ → List ℕ
+left_text mark left = said (mark ∷ codes "largest left " ∷ decimal left ∷ [])
+
+-- the class at a place with its room, where that is told
+abbrev pub room_at : List (List ℕ × ℕ) → List ℕ → ℕ → List ℕ
+room_at needs rooms k = if nat_lt k (length rooms) then room_text (room_mark k) (get_or needs k ([], 0)).0 (get_or rooms k 0) else []
+
+-- the most that is left of it, where that is told: behind a bracket, or behind the room
+abbrev pub left_mark : List ℕ → List ℕ
+left_mark rooms = if is_empty rooms then codes " (" else codes ", "
+
+abbrev pub left_at : SlotTold → ℕ → List ℕ
+left_at told k = if nat_lt k (length told.lefts) then left_text (left_mark told.rooms) (get_or told.lefts k 0) else []
+
+abbrev pub class_text : List (List ℕ × ℕ) → SlotTold → ℕ → List ℕ
+class_text needs told k = room_at needs told.rooms k ++ left_at told k
+
+abbrev pub classes_text : List (List ℕ × ℕ) → SlotTold → List ℕ
+classes_text needs told = flat_map (class_text needs told) (range_with_len 0 (length needs))
 
 -- the end of the line: a bracket, where classes are told
-abbrev pub slot_end : List ℕ → List ℕ
-slot_end rooms = if is_empty rooms then codes "\n" else codes ")\n"
+abbrev pub slot_end : SlotTold → List ℕ
+slot_end told = if is_empty told.rooms && is_empty told.lefts then codes "\n" else codes ")\n"
 
 abbrev pub slot_line : List Provider → ℕ → Slot → SlotTold → List ℕ
 slot_line all number slot told =
-    (slot_name number slot ++ needs_text (codes " ") slot.needs) ++ (slot_counted (length all) told.counts ++ (each_room slot.needs told.rooms ++ slot_end told.rooms))
+    (slot_name number slot ++ needs_text (codes " ") slot.needs) ++ (slot_counted (length all) told.counts ++ (classes_text slot.needs told ++ slot_end told))
 
 -- a line for each slot, numbered from 1
 abbrev pub slot_lines : List Provider → Asked → List ℕ

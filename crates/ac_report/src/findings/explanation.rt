@@ -15,7 +15,7 @@ ghost use Rattle.ac_find.specs.Explained.{slot_told, tree_counts};
 ghost use Rattle.ac_find.specs.Shown.Explained.{slot_counted as counts_shown, slot_shown, trees_counted as trees_shown};
 ghost use Rattle.ac_rules.specs.Placed.{slot_at};
 ghost use Rattle.ac_report.specs.Findings.Asks.{needs_text};
-ghost use Rattle.ac_report.specs.Findings.Explanation.{because_line, each_room, explanation_status, room_mark, room_text, slot_counted, slot_end, slot_line, slot_lines, slot_name, told_text, trees_line};
+ghost use Rattle.ac_report.specs.Findings.Explanation.{because_line, class_text, classes_text, explanation_status, left_at, left_mark, left_text, room_at, room_mark, room_text, slot_counted, slot_end, slot_line, slot_lines, slot_name, told_text, trees_line};
 ghost use Rattle.ac_report.specs.Findings.Explanation.Candidates.{candidates_line, has_candidate, without_lines};
 ghost use Rattle.ac_report.specs.Findings.Explanation.Differing.{differs_lines};
 ghost use Rattle.ac_report.specs.Findings.Explanation.Nobody.{nobody_lines};
@@ -40,6 +40,7 @@ use ac_query::{Need, Query};
 use ac_rules::Source;
 use ac_rules::slots::{group_at, needs_at};
 use ac_search::{SearchFault, Walk};
+use itoa::Buffer;
 use std::alloc::Global;
 
 // A slot by its number and the suffix of its group.
@@ -79,23 +80,88 @@ fn push_room<W: Sink>(out: &mut W, k: usize, need: &Need, room: u32) -> Result<(
     )
 }
 
-// How many have room for each class of a slot, where that is told.
-fn push_rooms<W: Sink>(out: &mut W, needs: &[Need], rooms: &[u32]) -> Result<(), WriteFailed>
-    requires { length rooms.now ≤ length needs.now }
-    ensures { Pushes W.taken W.failures out.old out.new result
-        (each_room (map need_entry needs.now) rooms.now) }
+// The most that is left of a class, behind a mark.
+#[tactic(auto, unfolding(crate::specs::Findings::Explanation::left_text))]
+fn push_left<W: Sink>(out: &mut W, mark: &[u8], left: u64) -> Result<(), WriteFailed>
+    ensures { Pushes W.taken W.failures out.old out.new result (left_text mark.now left) }
 {
-    for k in 0..rooms.len() {
+    let mut digits = Buffer::new();
+    push_pieces(
+        out,
+        &[mark, b"largest left ", digits.format(left).as_bytes()],
+    )
+}
+
+// A bracket where nothing is told before, or a comma.
+fn left_mark(rooms: &[u32]) -> &'static [u8]
+    ensures { result.now ≡ left_mark rooms.now }
+{
+    if rooms.is_empty() { b" (" } else { b", " }
+}
+
+// How many have room for the class at a place, where that is told.
+fn push_room_at<W: Sink>(
+    out: &mut W,
+    needs: &[Need],
+    rooms: &[u32],
+    k: usize,
+) -> Result<(), WriteFailed>
+    requires { k < length needs.now }
+    ensures { Pushes W.taken W.failures out.old out.new result
+        (room_at (map need_entry needs.now) rooms.now k) }
+{
+    if k < rooms.len() {
         push_room(out, k, &needs[k], rooms[k])?;
     }
     Ok(())
 }
 
-// The end of a slot's line: a bracket, where classes are told.
-fn slot_end(rooms: &[u32]) -> &'static [u8]
-    ensures { result.now ≡ slot_end rooms.now }
+// The most that is left of the class at a place, where that is told.
+fn push_left_at<W: Sink>(out: &mut W, told: &SlotTold, k: usize) -> Result<(), WriteFailed>
+    ensures { Pushes W.taken W.failures out.old out.new result (left_at (slot_shown told.now) k) }
 {
-    if rooms.is_empty() { b"\n" } else { b")\n" }
+    if k < told.lefts.len() {
+        push_left(out, left_mark(&told.rooms), told.lefts[k])?;
+    }
+    Ok(())
+}
+
+// What is told of the class of a slot at a place.
+#[tactic(auto, using(ac_base::proofs::Leaving::behind))]
+fn push_class<W: Sink>(
+    out: &mut W,
+    needs: &[Need],
+    told: &SlotTold,
+    k: usize,
+) -> Result<(), WriteFailed>
+    requires { k < length needs.now }
+    ensures { Pushes W.taken W.failures out.old out.new result
+        (class_text (map need_entry needs.now) (slot_shown told.now) k) }
+{
+    push_room_at(out, needs, &told.rooms, k)?;
+    push_left_at(out, told, k)
+}
+
+// What is told of each class of a slot.
+fn push_classes<W: Sink>(out: &mut W, needs: &[Need], told: &SlotTold) -> Result<(), WriteFailed>
+    ensures { Pushes W.taken W.failures out.old out.new result
+        (classes_text (map need_entry needs.now) (slot_shown told.now)) }
+{
+    for k in 0..needs.len() {
+        push_class(out, needs, told, k)?;
+    }
+    Ok(())
+}
+
+// The end of a slot's line: a bracket, where classes are told.
+fn slot_end(told: &SlotTold) -> &'static [u8]
+    ensures { result.now ≡ slot_end (slot_shown told.now) }
+{
+    if told.rooms.is_empty() && told.lefts.is_empty() {
+        b"\n"
+    } else {
+        b")\n"
+    }
 }
 
 // How many of all providers meet what a slot asks.
@@ -143,15 +209,14 @@ fn push_told<W: Sink>(
     needs: &[Need],
     told: &SlotTold,
 ) -> Result<(), WriteFailed>
-    requires { length told.now.rooms.items ≤ length needs.now }
     ensures { Pushes W.taken W.failures out.old out.new result
         (slot_counted providers (slot_shown told.now).counts
-        ++ (each_room (map need_entry needs.now) (slot_shown told.now).rooms
-        ++ slot_end (slot_shown told.now).rooms)) }
+        ++ (classes_text (map need_entry needs.now) (slot_shown told.now)
+        ++ slot_end (slot_shown told.now))) }
 {
     push_counts(out, providers, &told.counts)?;
-    push_rooms(out, needs, &told.rooms)?;
-    push_all(out, slot_end(&told.rooms))
+    push_classes(out, needs, told)?;
+    push_all(out, slot_end(told))
 }
 
 // The line of a slot.
@@ -163,9 +228,7 @@ fn push_slot<W: Sink>(
     s: usize,
     told: &SlotTold,
 ) -> Result<(), WriteFailed>
-    requires slot { s < length (slots_of (asked_of query.now)) }
-    requires rooms { length told.now.rooms.items
-        ≤ length (slot_at (asked_of query.now) s).needs }
+    requires { s < length (slots_of (asked_of query.now)) }
     ensures { Pushes W.taken W.failures out.old out.new result
         (slot_line (providers_of cloud.now) (s + 1) (slot_at (asked_of query.now) s)
         (slot_shown told.now)) }

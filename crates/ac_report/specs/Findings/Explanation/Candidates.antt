@@ -73,8 +73,8 @@ subtree_lines lists found = flat_map (λ k. subtree_line (get_or lists k []) (ge
 
 unfoldable pub policy_line : Option Bool → List ℕ
 policy_line None = []
-policy_line (Some true) = codes "without group_policy=isolate: some\n"
-policy_line (Some false) = codes "without group_policy=isolate: none\n"
+policy_line (Some true) = codes "with group_policy=none: some\n"
+policy_line (Some false) = codes "with group_policy=none: none\n"
 
 unfoldable pub required_line : Option Bool → List ℕ
 required_line None = []

@@ -262,8 +262,8 @@ fn policy_line(found: Option<bool>) -> &'static [u8]
 {
     match found {
         None => b"",
-        Some(true) => b"without group_policy=isolate: some\n",
-        Some(false) => b"without group_policy=isolate: none\n",
+        Some(true) => b"with group_policy=none: some\n",
+        Some(false) => b"with group_policy=none: none\n",
     }
 }
 

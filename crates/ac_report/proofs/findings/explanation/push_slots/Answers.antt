@@ -1,23 +1,16 @@
-use Rattle.std.proofs.Common.{◌∙◌, ◌+◌, ℕ, ap, arith, length}
+use Rattle.std.proofs.Common.{◌∙◌, ◌+◌, ℕ, ap, length}
 use Rattle.ac_query.specs.Asked.{slots_of}
 use Rattle.ac_query.specs.Shown.Queries.{asked_of}
 use Rattle.ac_rules.specs.Placed.{slot_at}
 use Rattle.ac_cloud.specs.Cloud.CloudWorld.{providers_of}
-use Rattle.ac_find.specs.Explained.{SlotTold, slot_told}
+use Rattle.ac_find.specs.Explained.{slot_told}
 use Rattle.ac_find.specs.Shown.Explained.{slot_shown}
 use Rattle.ac_report.specs.Findings.Explanation.{slot_line}
-use Rattle.ac_report.proofs.FoundTexts.SlotsWritten.{place_stopped, place_written, rooms_few, told_at, told_low}
+use Rattle.ac_report.proofs.FoundTexts.SlotsWritten.{place_stopped, place_written, told_at, told_low}
 use Rattle.ac_report.proofs.findings.explanation.push_slots.Goals as goal
 
-pub push_slot-requires-clause-rooms : goal.push_slot-requires-clause-rooms
-push_slot-requires-clause-rooms g c =
-    let all = providers_of c.args.cloud.now in
-    let asked = asked_of c.args.query.now in
-    let is = ap slot_shown c.index-slots-s.is ∙ told_at all asked c.args.slots.now c.loop-s.s c.index-slots-s.result c.requires c.loop-s-test.true in
-    omega (arith, ap (λ (told : SlotTold). length told.rooms) is, rooms_few all (slot_at asked c.loop-s.s))
-
-pub push_slot-requires-clause-slot : goal.push_slot-requires-clause-slot
-push_slot-requires-clause-slot g c = told_low (providers_of c.args.cloud.now) (asked_of c.args.query.now) c.args.slots.now c.loop-s.s c.index-slots-s.result c.requires c.loop-s-test.true
+pub push_slot-requires : goal.push_slot-requires
+push_slot-requires g c = told_low (providers_of c.args.cloud.now) (asked_of c.args.query.now) c.args.slots.now c.loop-s.s c.index-slots-s.result c.requires c.loop-s-test.true
 
 pub returns-in_err-push_slot : goal.returns-in_err-push_slot
 returns-in_err-push_slot g c =
