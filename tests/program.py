@@ -454,10 +454,10 @@ def ruled(page):
                 yield Case(f'{page}: {line}', ['tokens', full(query), *after, *version], lines(*names), tables=tables(cloud))
 
 
-def named(heading, cloud, query, said, lacks, others):
+def named(heading, cloud, query, said, lacks, others, version):
     """What `explain` is to say of a query that stands under a heading of docs/DIFFERENCES.md: nothing where the service answers as the program, or
     where the query is refused."""
-    out, _, status = run(Case('', ['candidates', query], tables=cloud))
+    out, _, status = run(Case('', ['candidates', query, '--microversion', version], tables=cloud))
     if status or (told(200, json.loads(out), query) in answers(said) and not lacks):
         return ''
     return ''.join(difference_line(words) + '\n' for words in headings() if words in (words_of(heading), *others))
@@ -466,8 +466,8 @@ def named(heading, cloud, query, said, lacks, others):
 def concerned():
     """`explain` names the heading that each query of docs/DIFFERENCES.md stands under, where the service answers otherwise, and no other."""
     for one in differences('mariadb'):
-        heading, cloud, query, *_ = one
-        yield Case(f'docs/DIFFERENCES.md: {heading}: explain {short(query)}', ['sh', '-c', '"$@" 2>/dev/null | grep "^differs: " || true', 'differs', PROGRAM, 'explain', query],
+        heading, cloud, query, *_, version = one
+        yield Case(f'docs/DIFFERENCES.md: {heading}: explain {short(query)}', ['sh', '-c', '"$@" 2>/dev/null | grep "^differs: " || true', 'differs', PROGRAM, 'explain', query, '--microversion', version],
                    lambda one=one: named(*one), tables=cloud)
 
 

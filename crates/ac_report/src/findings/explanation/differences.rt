@@ -2,7 +2,7 @@
 ghost use Rattle.std.specs.Prelude.{◌≡◌, ◌++◌, IfOk, OnOk};
 ghost use Rattle.ac_cloud.specs.Cloud.CloudWorld.{providers_of};
 ghost use Rattle.ac_query.specs.Shown.Queries.{asked_of};
-ghost use Rattle.ac_report.specs.Findings.Explanation.Differing.{adds, differs_line, differs_lines, heading, may_show};
+ghost use Rattle.ac_report.specs.Findings.Explanation.Differing.{adds, advice, differs_line, differs_lines, heading, may_show};
 
 use ac_base::NoMemory;
 use ac_cloud::Cloud;
@@ -22,6 +22,7 @@ fn heading(difference: Difference) -> &'static [u8]
         Difference::GroupThatOnlyForbids => b"a group that only forbids",
         Difference::TreeWithoutResources => b"the tree of a group without resources",
         Difference::PolicyNeeded => b"when a policy is needed",
+        Difference::ConflictingTraits => b"a trait that is required and forbidden",
         Difference::IsolateWithoutResources => b"isolate and groups without resources",
         Difference::TwoMemberOf => b"two member_of, one met by the provider and one by its root",
         Difference::ForbiddenAggregateOfAnotherTree => b"a forbidden aggregate of another tree",
@@ -32,6 +33,57 @@ fn heading(difference: Difference) -> &'static [u8]
     }
 }
 
+// What the service does otherwise, and what to do about it.
+#[tactic(auto, unfolding(crate::specs::Findings::Explanation::Differing::advice))]
+fn advice(difference: Difference) -> &'static [u8]
+    ensures { result.now ≡ advice difference }
+{
+    match difference {
+        Difference::AmountsOfTwoGroups => {
+            b"the service gives wrong amounts and loses candidates; ask with group_policy=none, or for each class in one group"
+        }
+        Difference::SharedDiskForOneTree => {
+            b"the service looks for the granular groups in one tree alone; ask for what is shared in a granular group, too"
+        }
+        Difference::SharingProviderWithParent => {
+            b"the service fails with status 500; let the sharing provider be a root"
+        }
+        Difference::GroupThatOnlyForbids => {
+            b"the service finds no provider for it; require a trait in it, or leave it out"
+        }
+        Difference::TreeWithoutResources => {
+            b"the service ignores its in_tree; name the tree in a group with resources"
+        }
+        Difference::PolicyNeeded => {
+            b"the service refuses the query with status 400; add group_policy"
+        }
+        Difference::ConflictingTraits => {
+            b"the service refuses the query with status 400; leave one of them out"
+        }
+        Difference::IsolateWithoutResources => {
+            b"the service wants a provider of its own for each group; ask with group_policy=none"
+        }
+        Difference::TwoMemberOf => {
+            b"the service wants one of them to meet both; add the provider to both aggregates"
+        }
+        Difference::ForbiddenAggregateOfAnotherTree => {
+            b"the service looks at the root of the tree that uses the provider; forbid it in a granular group"
+        }
+        Difference::MemberOfBelowRoot => {
+            b"the service wants the sharing provider itself in the aggregate; add it there"
+        }
+        Difference::InTreeAndSharing => {
+            b"the service lets the provider serve only its own tree; name the tree in a granular group"
+        }
+        Difference::FloatingPoint => {
+            b"the service computes another capacity; choose a ratio in quarters, as 8.25"
+        }
+        Difference::TreeOutsideSummaries => {
+            b"the service leaves that tree out of provider_summaries; look it up in /resource_providers"
+        }
+    }
+}
+
 // Adds the line of a difference.
 #[tactic(auto, unfolding(crate::specs::Findings::Explanation::Differing::differs_line))]
 fn add_line(text: &mut Vec<u8>, difference: Difference) -> Result<(), AllocError>
@@ -39,16 +91,21 @@ fn add_line(text: &mut Vec<u8>, difference: Difference) -> Result<(), AllocError
 {
     text.extend_from_slice(b"differs: ")?;
     text.extend_from_slice(heading(difference))?;
+    text.extend_from_slice(b": ")?;
+    text.extend_from_slice(advice(difference))?;
     text.extend_from_slice(b" (docs/DIFFERENCES.md)\n")
 }
 
-// Whether a difference adds candidates, or refuses the query. All others take away.
+// Whether a difference adds candidates, or the service refuses the query or fails. All others take away.
 fn adds(difference: Difference) -> bool
     ensures { result ≡ adds difference }
 {
     matches!(
         difference,
-        Difference::TreeWithoutResources | Difference::PolicyNeeded
+        Difference::SharingProviderWithParent
+            | Difference::TreeWithoutResources
+            | Difference::PolicyNeeded
+            | Difference::ConflictingTraits
     )
 }
 
