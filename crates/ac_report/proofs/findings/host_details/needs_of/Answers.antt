@@ -1,4 +1,4 @@
-use Rattle.std.proofs.Common.{◌≡◌, ◌∙◌, ◌-◌, sym, ap, arith}
+use Rattle.std.proofs.Common.{◌-◌, sym, ap, arith}
 use Rattle.std.proofs.lemmas.List.{get_or_past}
 use Rattle.ac_query.specs.Asked.{Slot, slots_of}
 use Rattle.ac_query.specs.Shown.Queries.{asked_of}

@@ -1,4 +1,4 @@
-use Rattle.std.proofs.Common.{◌≡◌, ◌∙◌, ◌<◌, ℕ, List, Option, false, ◌∷◌, IfOk, get_or, length, map, slice_index_or, None, refl, sym, subst, ap, arith}
+use Rattle.std.proofs.Common.{◌≡◌, ◌∙◌, ◌<◌, ℕ, List, false, ◌∷◌, IfOk, get_or, length, map, slice_index_or, None, refl, sym, subst, ap, arith}
 use Rattle.std.specs.List.{All, flat_map}
 use Rattle.csv.specs.Writing.{default_writer, row_text}
 use Rattle.std.proofs.lemmas.List.{get_or_read, map_more, take_all}

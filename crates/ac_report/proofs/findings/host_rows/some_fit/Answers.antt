@@ -1,4 +1,4 @@
-use Rattle.std.proofs.Common.{◌≡◌, ◌∙◌, ◌<◌, ◌||◌, ℕ, List, true, false, get_or, length, slice_index_or, take, refl, sym, ap, ap₂, arith}
+use Rattle.std.proofs.Common.{◌∙◌, ◌<◌, ◌||◌, false, get_or, length, slice_index_or, refl, sym, ap, ap₂, arith}
 use Rattle.std.specs.List.{list_any}
 use Rattle.std.proofs.lemmas.List.{take_all}
 use Rattle.std.proofs.lemmas.List.Elements.{All-get_or}
