@@ -24,8 +24,8 @@ import sys
 import tempfile
 
 from cases import CHILD, ONE, SOME, Case, full, lines, tables
-from model import (LIST_HEADER, RULES, body, claim, draw_cloud, draw_query, explanation, has_candidate, host_rows, judgement, list_rows, names,
-                   place_all, release, usage_rows, why_rows)
+from model import (LIST_HEADER, RULES, body, bound, claim, draw_cloud, draw_query, explanation, filled, has_candidate, host_rows, judgement, list_rows, names,
+                   place_all, release, sum_text, usage_rows, why_rows)
 from notation import HEADERS
 
 ROOT = os.path.dirname(os.path.dirname(os.path.abspath(__file__)))
@@ -60,9 +60,9 @@ FAULTS = [
     ('--help', ended('', 2, UNKNOWN)),
     ('check ', ended('', 2, NUMBER)),
     ('check x', ended('', 2, NUMBER)),
-    *((command, ended('', 2, NUMBER)) for command in ('candidates', 'tokens', 'list', 'fill', 'verify', 'explain', 'hosts', 'why', 'claim', 'release')),
+    *((command, ended('', 2, NUMBER)) for command in ('candidates', 'tokens', 'list', 'fill', 'count', 'verify', 'explain', 'hosts', 'why', 'claim', 'release')),
     *((f'{command} {TWO}', ended('', 2, NUMBER)) for command in ('verify', 'why', 'claim', 'release')),
-    *((f'{command} {TWO} P1', ended('', 2, NUMBER)) for command in ('fill', 'explain', 'hosts')),
+    *((f'{command} {TWO} P1', ended('', 2, NUMBER)) for command in ('fill', 'count', 'explain', 'hosts')),
     *((f'{command} {TWO} P1 P1', ended('', 2, NUMBER)) for command in ('candidates', 'tokens', 'list', 'verify', 'why', 'claim', 'release')),
     ('usages all', ended('', 2, NUMBER)),
     (f'verify --detail {TWO} P1', ended('', 2, NUMBER)),
@@ -180,6 +180,10 @@ TURNS = [
     ('release resources1=VCPU:4&resources2=VCPU:5&group_policy=none P1,P1', ended('not in use\n', 1)),
     ('release resources1=VCPU:4&resources2=VCPU:4&group_policy=none P1,P1', ended('released\n', 0)),
     ('claim resources=VCPU:8 P1', ended('claimed\n', 0)),
+    # What is counted isn't claimed, whatever the limit.
+    (f'count {FIVE}&limit=1', ended('at least 1, at most 1: short of VCPU at 1 host\n', 0)),
+    ('count resources=VCPU:1', ended('at least 8, at most 8: short of VCPU at 1 host\n', 0)),
+    ('count resources=VCPU:9', ended('at least 0, at most 0\n', 1)),
     # Placements are claimed too where they are fewer than the limit.
     (f'fill {FIVE}&limit=2', ended('P2\n', 1)),
     ('tokens resources=VCPU:4', ended('', 0)),
@@ -306,6 +310,8 @@ def answer(command, asked, assignment, cloud):
         return explanation(found, query, cloud), none
     if command == 'hosts':
         return host_rows(found, query, cloud), none
+    if command == 'count':
+        return sum_text(len(filled(query, cloud)), *bound(found, query, cloud)), none
     rows = why_rows(assignment[0].root(), found, text, query, cloud)
     return rows, 0 if rows.endswith(',fits\n') else 1
 
@@ -331,7 +337,7 @@ def draw_assignment(chance, query, cloud):
     return chance.choice(found if found and chance.random() < 0.85 else every)
 
 
-JOBS = 'tokens', 'tokens after', 'candidates', 'list', 'verify', 'explain', 'hosts', 'why'
+JOBS = 'tokens', 'tokens after', 'candidates', 'list', 'count', 'verify', 'explain', 'hosts', 'why'
 KINDS = 'job', 'job', 'claim', 'claim', 'claim', 'release', 'release', 'fill', 'usages', 'fault'
 
 
@@ -341,7 +347,7 @@ def draw_turn(chance, cloud, queries, claimed):
     if kind == 'usages':
         return 'usages', ended(*usage_rows(cloud))
     if kind == 'fault':
-        return chance.choice([*FAULTS[:46], ('', '')])
+        return chance.choice([*FAULTS[:48], ('', '')])
     if kind == 'fill':  # few, so that there is room for what comes after
         limit = chance.randint(1, 2)
         placed = place_all(asked[0], cloud, limit)

@@ -150,7 +150,7 @@ asks_query (list after traits) detail version query world other = refl
 asks_query (fill sum) detail version query world other = refl
 asks_query (verify token) detail version query world other = refl
 asks_query explain detail version query world other = refl
-asks_query (hosts sum) detail version query world other = refl
+asks_query (hosts sum within) detail version query world other = refl
 asks_query (why host) detail version query world other = refl
 
 module _ (task : Task) (world : World) where

@@ -27,7 +27,7 @@ SearchMayStop (command.list after traits) tries all asked = MayStop tries all as
 SearchMayStop (command.fill sum) tries all asked = MayStop tries all asked None
 SearchMayStop (command.verify token) tries all asked = ⊥
 SearchMayStop command.explain tries all asked = ExplanationMayStop tries all asked
-SearchMayStop (command.hosts sum) tries all asked = MayStop tries all asked None
+SearchMayStop (command.hosts sum within) tries all asked = MayStop tries all asked None
 SearchMayStop (command.why host) tries all asked = MayStop tries all asked None
 
 -- a search of a task may stop, over the bytes of five tables
@@ -43,5 +43,5 @@ AnswerMayStop (wanted.Rows query token traits) tries all = MayStop tries all (as
 AnswerMayStop (wanted.Fill query sum) tries all = MayStop tries all (asked_of query) None
 AnswerMayStop (wanted.Verdict query token detail) tries all = ⊥
 AnswerMayStop (wanted.Explanation question) tries all = ExplanationMayStop tries all (asked_of question.query)
-AnswerMayStop (wanted.Hosts query sum) tries all = MayStop tries all (asked_of query) None
+AnswerMayStop (wanted.Hosts query sum within) tries all = MayStop tries all (asked_of query) None
 AnswerMayStop (wanted.Why query host) tries all = MayStop tries all (asked_of query) None

@@ -18,7 +18,7 @@ pub data Command : Type 0 where
   fill : Bool → Command
   verify : List ℕ → Command
   explain : Command
-  hosts : Bool → Command
+  hosts : Bool → Option ℕ → Command
   why : List ℕ → Command
 
 -- the paths of the tables' files, as they were given
@@ -51,7 +51,7 @@ command_shown (variant.List after traits) = list (option_map (λ t. t.now) after
 command_shown (variant.Fill sum) = fill sum
 command_shown (variant.Verify token) = verify token.now
 command_shown variant.Explain = explain
-command_shown (variant.Hosts sum) = hosts sum
+command_shown (variant.Hosts sum within) = hosts sum within
 command_shown (variant.Why host) = why host.now
 
 abbrev pub paths_shown : FiveTables (Bor (List ℕ)) → Paths

@@ -32,7 +32,7 @@ answer_to (wanted.Rows query token traits) world = page_rows world.providers tra
 answer_to (wanted.Fill query sum) world = fills world.providers sum (asked_of query) None
 answer_to (wanted.Verdict query token detail) world = verdict_line world.providers detail (asked_of query) (Some (ids_of token))
 answer_to (wanted.Explanation question) world = explanation world.providers (asked_of question.query) None
-answer_to (wanted.Hosts query sum) world = host_rows world.providers sum (asked_of query) None
+answer_to (wanted.Hosts query sum within) world = host_rows world.providers sum within (asked_of query) None
 answer_to (wanted.Why query host) world = why_not world.providers (asked_of query) host
 
 -- The token on which a verdict is wanted has an id for each slot of the query; a query that is placed again and again asks for an amount of a class; and

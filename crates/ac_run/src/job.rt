@@ -34,9 +34,11 @@ pub enum Command<'a> {
     },
     /// Writes how many providers and roots come how far, and whether there is a candidate.
     Explain,
-    /// Writes at which roots candidates stand, and what the others lack, or how many of them lack what.
+    /// Writes at which roots candidates stand, and what the others lack, or how many of them lack what: of all roots, or of those of an aggregate, which is
+    /// named by its UUID as a number.
     Hosts {
         sum: bool,
+        within: Option<u128>,
     },
     /// Writes how far each provider of a host comes, and what it lacks. A host is a provider's UUID, or a name that no other provider has.
     Why {

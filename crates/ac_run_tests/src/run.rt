@@ -209,12 +209,18 @@ static ANSWERS: [Case; 10] = [
         ..TOKENS
     },
     Case {
-        command: Command::Hosts { sum: false },
+        command: Command::Hosts {
+            sum: false,
+            within: None,
+        },
         output: "root,name,fits,slot,lacks,asks,detail\n@1,,yes,,,,\n",
         ..TOKENS
     },
     Case {
-        command: Command::Hosts { sum: true },
+        command: Command::Hosts {
+            sum: true,
+            within: None,
+        },
         output: "hosts,slot,lacks,asks\n1,,fits,\n",
         ..TOKENS
     },
@@ -268,7 +274,7 @@ fn with_text<'a>(command: Command<'static>, text: Option<&'a str>) -> Command<'a
             token: text.unwrap_or(""),
         },
         Command::Explain => Command::Explain,
-        Command::Hosts { sum } => Command::Hosts { sum },
+        Command::Hosts { sum, within } => Command::Hosts { sum, within },
         Command::Why { .. } => Command::Why {
             host: text.unwrap_or(""),
         },

@@ -78,7 +78,7 @@ search_none (command.list after traits) all asked may = may
 search_none (command.fill sum) all asked may = may
 search_none (command.verify token) all asked may = may
 search_none command.explain all asked may = explanation_none all asked may
-search_none (command.hosts sum) all asked may = may
+search_none (command.hosts sum within) all asked may = may
 search_none (command.why host) all asked may = may
 
 asked_none : (version : Version) (world : World) (asked : Asked) → AskedMayStop None version world asked → ⊥

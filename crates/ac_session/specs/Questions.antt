@@ -5,6 +5,7 @@ use Rattle.std.specs.List.{slice_split}
 use Rattle.std.specs.Str.{bytes_eq, is_utf8}
 use Rattle.ac_query.specs.declared.version.Version.{Version}
 use Rattle.ac_query.specs.declared.version.Version.TheVariants.{V136}
+use Rattle.ac_run.specs.Tasks as task
 use Rattle.ac_run.specs.Tasks.{Command, Task, check, candidates, tokens, list, verify, explain, hosts, why, task_of}
 use Rattle.ac_session.specs.declared.questions.Question.{Question}
 use Rattle.ac_session.specs.declared.questions.Question.TheVariants as question
@@ -96,9 +97,10 @@ asked_by_name version name words =
     else if bytes_eq name (codes "tokens") then asks_search tokens version words
     else if bytes_eq name (codes "list") then asks_search (λ after. list after true) version words
     else if bytes_eq name (codes "fill") then asks_fill words
+    else if bytes_eq name (codes "count") then asks_query (task.fill true) version words
     else if bytes_eq name (codes "verify") then asks_about verify version words
     else if bytes_eq name (codes "explain") then asks_query explain version words
-    else if bytes_eq name (codes "hosts") then asks_query (hosts false) version words
+    else if bytes_eq name (codes "hosts") then asks_query (hosts false None) version words
     else if bytes_eq name (codes "why") then asks_about why version words
     else if bytes_eq name (codes "claim") then asks_claim words
     else if bytes_eq name (codes "release") then asks_release words

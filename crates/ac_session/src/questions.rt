@@ -221,9 +221,17 @@ fn question_by_name<'a>(version: Version, name: &str, rest: Option<&'a str>) -> 
         "tokens" => tokens(version, rest),
         "list" => list(version, rest),
         "fill" => fill(rest),
+        "count" => over_query(Command::Fill { sum: true }, version, rest),
         "verify" => verify(version, rest),
         "explain" => over_query(Command::Explain, version, rest),
-        "hosts" => over_query(Command::Hosts { sum: false }, version, rest),
+        "hosts" => over_query(
+            Command::Hosts {
+                sum: false,
+                within: None,
+            },
+            version,
+            rest,
+        ),
         "why" => why(version, rest),
         "claim" => claim(rest),
         "release" => release(rest),

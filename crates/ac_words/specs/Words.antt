@@ -11,7 +11,7 @@ use Rattle.clap.specs.Words.{App, IsAmong, Kinds, Row, Rule, Text, fault_of, fir
 use Rattle.clap.specs.declared.builder.action.ArgAction.TheVariants.{SetTrue}
 use Rattle.clap.specs.declared.error.kind.ErrorKind.{ErrorKind}
 use Rattle.clap.specs.declared.error.kind.ErrorKind.TheVariants.{ArgumentConflict, DisplayHelp, DisplayVersion, InvalidValue, MissingRequiredArgument}
-use Rattle.ac_base.specs.Texts.{count_value}
+use Rattle.ac_base.specs.Texts.{count_value, id_value}
 use Rattle.ac_query.specs.declared.version.Version.{Version}
 use Rattle.ac_query.specs.declared.version.Version.TheVariants.{V136, V139}
 use Rattle.ac_run.specs.Tasks.{Command, Paths, Task, check, candidates, tokens, list, fill, verify, explain, hosts, why, command_shown}
@@ -95,7 +95,7 @@ abbrev pub explain_app : App
 explain_app = with_tries (query_app (codes "explain"))
 
 abbrev pub hosts_app : App
-hosts_app = with_rule (with_tries (query_app (codes "hosts"))) (flag_rule (codes "sum"))
+hosts_app = with_rule (with_rule (with_tries (query_app (codes "hosts"))) (option_rule (codes "in"))) (flag_rule (codes "sum"))
 
 abbrev pub why_app : App
 why_app = with_tries (with_rule (query_app (codes "why")) (word_rule (codes "host")))
@@ -178,6 +178,24 @@ abbrev pub tries_kinds : Option (Option ℕ) → Kinds
 tries_kinds None = InvalidValue ∷ []
 tries_kinds (Some tries) = []
 
+-- the aggregate that a text names; without it, none is named
+abbrev pub within_named : Option Text → Option (Option ℕ)
+within_named None = Some None
+within_named (Some text) = option_map Some (id_value text)
+
+-- the aggregate whose roots are told
+abbrev pub within_of : List Row → Option (Option ℕ)
+within_of rows = within_named (first_of (codes "in") rows)
+
+-- what is no UUID is a value that isn't valid
+abbrev pub within_kinds : Option (Option ℕ) → Kinds
+within_kinds None = InvalidValue ∷ []
+within_kinds (Some within) = []
+
+-- the fault of the tries, and of the aggregate
+abbrev pub option_kinds : List Row → Kinds
+option_kinds rows = or_else (tries_kinds (tries_of rows)) (within_kinds (within_of rows))
+
 -- what the option of a table says
 abbrev pub option_of : List Row → Table → Option Text
 option_of rows table = first_of (table_name table) rows
@@ -199,12 +217,12 @@ table_kinds rows =
     if is_some (folder_of rows) then (if list_any (has_option rows) all_tables then ArgumentConflict ∷ [] else [])
     else (if has_option rows Providers && has_option rows Inventories then [] else MissingRequiredArgument ∷ [])
 
--- the fault of the version, the tries and the tables that are named with a command
+-- the fault of the version, the tries, the aggregate and the tables that are named with a command
 abbrev pub own_faults : Option (Name × List Row) → Kinds
 own_faults None = []
-own_faults (Some p) = or_else (version_kinds (version_of p.1)) (or_else (tries_kinds (tries_of p.1)) (table_kinds p.1))
+own_faults (Some p) = or_else (version_kinds (version_of p.1)) (or_else (option_kinds p.1) (table_kinds p.1))
 
--- `clap` refuses them for want of memory alone, and their version, tries and tables have no fault
+-- `clap` refuses them for want of memory alone, and their version, tries, aggregate and tables have no fault
 unfoldable pub is_taken : List Text → Bool
 is_taken words = takes program words && is_empty (own_faults (named words))
 
@@ -260,7 +278,7 @@ call_of name.List rows = asking rows (list (after_of rows) (traits_of rows))
 call_of name.Fill rows = asking rows (fill (sum_of rows))
 call_of name.Verify rows = option_and_then (λ token. asking rows (verify token)) (first_of (codes "token") rows)
 call_of name.Explain rows = asking rows explain
-call_of name.Hosts rows = asking rows (hosts (sum_of rows))
+call_of name.Hosts rows = asking rows (hosts (sum_of rows) (option_and_then (λ within. within) (within_of rows)))
 call_of name.Why rows = option_and_then (λ host. asking rows (why host)) (first_of (codes "host") rows)
 call_of name.Session rows = Some session
 

@@ -1,12 +1,11 @@
 -- An explanation, need by need and slot by slot.
-use Rattle.std.proofs.Common.{inl, inr, ◌≡◌, ◌∙◌, ℕ, suc, ◌+◌, ◌-◌, ◌<◌, ◌≤◌, ◌==◌, Bool, List, [], ◌∷◌, ◌++◌, get_or, length, map, Option, refl, rules, subst, sym, ap, arith}
+use Rattle.std.proofs.Common.{◌≡◌, ◌∙◌, ℕ, suc, ◌+◌, ◌-◌, ◌<◌, ◌==◌, Bool, List, [], ◌∷◌, ◌++◌, get_or, length, map, Option, refl, rules, subst, sym, ap, arith}
 use Rattle.std.specs.List.{flat_map, position, position_or_len, range_with_len}
-use Rattle.std.proofs.lemmas.Bool.{cases_Bool}
 use Rattle.std.proofs.lemmas.List.{get_or-map, length-map}
-use Rattle.ac_query.specs.Asked.{Asked, Slot, slots_of}
+use Rattle.ac_query.specs.Asked.{Asked, slots_of}
 use Rattle.ac_cloud.specs.World.{Provider}
 use Rattle.ac_rules.specs.Placed.{no_slot, slot_at}
-use Rattle.ac_find.specs.Explained.{SlotTold, class_room, is_short, slot_told}
+use Rattle.ac_find.specs.Explained.{SlotTold, slot_told}
 use Rattle.ac_find.specs.Shown.Explained.{slot_shown}
 use Rattle.ac_find.specs.declared.counts.classes.SlotTold as rust
 use Rattle.std.specs.Prelude.{Result, Ok, Err}

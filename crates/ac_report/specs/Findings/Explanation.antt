@@ -4,10 +4,9 @@ pub mod Candidates
 pub mod Differing
 pub mod Nobody
 pub mod Shown
-use Rattle.std.specs.Prelude.{ℕ, ◌+◌, ◌==◌, Bool, ◌&&◌, true, false, if◌then◌else◌, List, [], ◌∷◌, ◌++◌, get_or, length, map, slice_get, codes, position, Option, None, Some}
+use Rattle.std.specs.Prelude.{ℕ, ◌+◌, ◌==◌, Bool, ◌&&◌, true, false, if◌then◌else◌, List, [], ◌∷◌, ◌++◌, get_or, length, map, nat_lt, codes, position, Option, None, Some}
 use Rattle.std.specs.Fmt.{decimal}
 use Rattle.std.specs.List.{flat_map, range_with_len}
-use Rattle.std.specs.Option.{option_map_or}
 use Rattle.ac_query.specs.Asked.{Asked, Slot, slots_of}
 use Rattle.ac_cloud.specs.World.{Provider}
 use Rattle.ac_find.specs.Explained.{SlotCounts, SlotTold, TreeCounts, slot_counts, slot_told, tree_counts}
@@ -44,11 +43,19 @@ room_text mark class room = said (mark ∷ class ∷ codes " " ∷ decimal room 
 unfoldable pub left_text : List ℕ → ℕ → List ℕ
 left_text mark left = said (mark ∷ codes "largest left " ∷ decimal left ∷ [])
 
--- the class at a place with its room, and the most that is left of it, where these are told
+-- the class at a place with its room, where that is told
+abbrev pub room_at : List (List ℕ × ℕ) → List ℕ → ℕ → List ℕ
+room_at needs rooms k = if nat_lt k (length rooms) then room_text (room_mark k) (get_or needs k ([], 0)).0 (get_or rooms k 0) else []
+
+-- the most that is left of it, where that is told: behind a bracket, or behind the room
+abbrev pub left_mark : List ℕ → List ℕ
+left_mark rooms = if is_empty rooms then codes " (" else codes ", "
+
+abbrev pub left_at : SlotTold → ℕ → List ℕ
+left_at told k = if nat_lt k (length told.lefts) then left_text (left_mark told.rooms) (get_or told.lefts k 0) else []
+
 abbrev pub class_text : List (List ℕ × ℕ) → SlotTold → ℕ → List ℕ
-class_text needs told k =
-    option_map_or (room_text (room_mark k) (get_or needs k ([], 0)).0) (slice_get told.rooms k) []
-    ++ option_map_or (left_text (if is_empty told.rooms then codes " (" else codes ", ")) (slice_get told.lefts k) []
+class_text needs told k = room_at needs told.rooms k ++ left_at told k
 
 abbrev pub classes_text : List (List ℕ × ℕ) → SlotTold → List ℕ
 classes_text needs told = flat_map (class_text needs told) (range_with_len 0 (length needs))

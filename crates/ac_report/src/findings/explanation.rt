@@ -6,7 +6,7 @@ mod differences;
 mod nobody;
 mod without;
 
-ghost use Rattle.std.specs.Prelude.{◌≡◌, ◌+◌, ◌<◌, ◌≤◌, ◌++◌, Err, IfOk, None, codes, if◌then◌else◌, length, map};
+ghost use Rattle.std.specs.Prelude.{◌≡◌, ◌+◌, ◌<◌, ◌≤◌, ◌++◌, Err, IfOk, None, codes, length, map};
 ghost use Rattle.ac_cloud.specs.Cloud.CloudWorld.{providers_of};
 ghost use Rattle.ac_query.specs.Asked.{slots_of};
 ghost use Rattle.ac_query.specs.Shown.Groups.{need_entry};
@@ -14,9 +14,8 @@ ghost use Rattle.ac_query.specs.Shown.Queries.{asked_of};
 ghost use Rattle.ac_find.specs.Explained.{slot_told, tree_counts};
 ghost use Rattle.ac_find.specs.Shown.Explained.{slot_counted as counts_shown, slot_shown, trees_counted as trees_shown};
 ghost use Rattle.ac_rules.specs.Placed.{slot_at};
-ghost use Rattle.ac_rules.specs.Together.{is_empty};
 ghost use Rattle.ac_report.specs.Findings.Asks.{needs_text};
-ghost use Rattle.ac_report.specs.Findings.Explanation.{because_line, class_text, classes_text, explanation_status, left_text, room_mark, room_text, slot_counted, slot_end, slot_line, slot_lines, slot_name, told_text, trees_line};
+ghost use Rattle.ac_report.specs.Findings.Explanation.{because_line, class_text, classes_text, explanation_status, left_at, left_mark, left_text, room_at, room_mark, room_text, slot_counted, slot_end, slot_line, slot_lines, slot_name, told_text, trees_line};
 ghost use Rattle.ac_report.specs.Findings.Explanation.Candidates.{candidates_line, has_candidate, without_lines};
 ghost use Rattle.ac_report.specs.Findings.Explanation.Differing.{differs_lines};
 ghost use Rattle.ac_report.specs.Findings.Explanation.Nobody.{nobody_lines};
@@ -93,11 +92,38 @@ fn push_left<W: Sink>(out: &mut W, mark: &[u8], left: u64) -> Result<(), WriteFa
     )
 }
 
-// A bracket before the first that is told of classes, or a comma.
+// A bracket where nothing is told before, or a comma.
 fn left_mark(rooms: &[u32]) -> &'static [u8]
-    ensures { result.now ≡ (if is_empty rooms.now then codes " (" else codes ", ") }
+    ensures { result.now ≡ left_mark rooms.now }
 {
     if rooms.is_empty() { b" (" } else { b", " }
+}
+
+// How many have room for the class at a place, where that is told.
+fn push_room_at<W: Sink>(
+    out: &mut W,
+    needs: &[Need],
+    rooms: &[u32],
+    k: usize,
+) -> Result<(), WriteFailed>
+    requires { k < length needs.now }
+    ensures { Pushes W.taken W.failures out.old out.new result
+        (room_at (map need_entry needs.now) rooms.now k) }
+{
+    if k < rooms.len() {
+        push_room(out, k, &needs[k], rooms[k])?;
+    }
+    Ok(())
+}
+
+// The most that is left of the class at a place, where that is told.
+fn push_left_at<W: Sink>(out: &mut W, told: &SlotTold, k: usize) -> Result<(), WriteFailed>
+    ensures { Pushes W.taken W.failures out.old out.new result (left_at (slot_shown told.now) k) }
+{
+    if k < told.lefts.len() {
+        push_left(out, left_mark(&told.rooms), told.lefts[k])?;
+    }
+    Ok(())
 }
 
 // What is told of the class of a slot at a place.
@@ -112,13 +138,8 @@ fn push_class<W: Sink>(
     ensures { Pushes W.taken W.failures out.old out.new result
         (class_text (map need_entry needs.now) (slot_shown told.now) k) }
 {
-    if let Some(room) = told.rooms.get(k) {
-        push_room(out, k, &needs[k], *room)?;
-    }
-    match told.lefts.get(k) {
-        Some(left) => push_left(out, left_mark(&told.rooms), *left),
-        None => Ok(()),
-    }
+    push_room_at(out, needs, &told.rooms, k)?;
+    push_left_at(out, told, k)
 }
 
 // What is told of each class of a slot.

@@ -2,13 +2,13 @@
 ghost use Rattle.std.specs.Prelude.{◌≡◌, ◌∷◌, IfErr, IfOk, OnOk, Some, [], option_map, true};
 ghost use Rattle.ac_run.specs.Tasks.{command_shown};
 ghost use Rattle.clap.specs.Words.{first_of, found_of, rows_of, subcommand_rows_of};
-ghost use Rattle.ac_words.specs.Words.{IsMadeOf, Says, Tells, asking, call_of, call_shown, command_found, is_complete, is_set, own_faults, tries_kinds, tries_named, tries_of, version_kinds, version_named, version_of};
+ghost use Rattle.ac_words.specs.Words.{IsMadeOf, Says, Tells, asking, call_of, call_shown, command_found, is_complete, is_set, option_kinds, own_faults, tries_kinds, tries_named, tries_of, version_kinds, version_named, version_of, within_kinds, within_named, within_of};
 
 use super::tables::paths;
 use super::{Call, WordFault, Words, fault_of, grammar};
 use crate::mark::past_mark;
 use crate::name::Name;
-use ac_base::read_count;
+use ac_base::{Id, read_count};
 use ac_query::Version;
 use ac_run::Command;
 use clap::ArgMatches;
@@ -62,7 +62,8 @@ fn call<'a>(name: Name, entries: &ArgMatches<'a>) -> Option<Call<'a>>
         Name::Explain => asking(entries, Command::Explain),
         Name::Hosts => {
             let sum = is_set(entries, "sum");
-            asking(entries, Command::Hosts { sum })
+            let within = within_named(entry(entries, "in")).flatten();
+            asking(entries, Command::Hosts { sum, within })
         }
         Name::Why => {
             let host = entry(entries, "host")?;
@@ -144,6 +145,46 @@ fn tries(alloc: Global, name: Name, entries: &ArgMatches<'_>) -> Result<Option<u
     }
 }
 
+// The aggregate that a text names; without it, none is named.
+fn within_named(text: Option<&str>) -> Option<Option<u128>>
+    ensures { result ≡ within_named (option_map (λ t. t.now) text.entry) }
+{
+    match text {
+        None => Some(None),
+        Some(text) => Some(Some(Id::read(text.as_bytes())?.as_u128())),
+    }
+}
+
+// Refuses what can't be the UUID of an aggregate.
+fn check_within(alloc: Global, name: Name, entries: &ArgMatches<'_>) -> Result<(), WordFault>
+    ensures ok { OnOk result (within_kinds (within_of (rows_of (found_of entries.now))) ≡ []) }
+    ensures fault { IfErr result (Tells (within_kinds
+        (within_of (rows_of (found_of entries.now))))) }
+{
+    let text = entry(entries, "in");
+    match within_named(text) {
+        Some(_within) => Ok(()),
+        None => {
+            let text = text.unwrap_or("");
+            let message = format!(in alloc;
+                "invalid value '{text}' for '--in <UUID>': it is the UUID of an aggregate"
+            )?;
+            Err(refusal(alloc, name, ErrorKind::InvalidValue, message.as_str())?)
+        }
+    }
+}
+
+// How many tries a search may make, where the aggregate can be one too.
+fn options(alloc: Global, name: Name, entries: &ArgMatches<'_>) -> Result<Option<u64>, WordFault>
+    ensures tries { IfOk result (λ n. tries_of (rows_of (found_of entries.now)) ≡ Some n) }
+    ensures ok { OnOk result (option_kinds (rows_of (found_of entries.now)) ≡ []) }
+    ensures fault { IfErr result (Tells (option_kinds (rows_of (found_of entries.now)))) }
+{
+    let tries = tries(alloc, name, entries)?;
+    check_within(alloc, name, entries)?;
+    Ok(tries)
+}
+
 // The command that was found, and its entries.
 fn find_command<'m, 'a>(matches: &'m ArgMatches<'a>) -> Option<(Name, &'m ArgMatches<'a>)>
     ensures { option_map (λ found. (found.0, rows_of (found_of found.1.now))) result
@@ -168,7 +209,7 @@ fn words_with<'a>(
         (Some (name, rows_of (found_of entries.now))))) }
 {
     let version = version(alloc, name, entries)?;
-    let tries = tries(alloc, name, entries)?;
+    let tries = options(alloc, name, entries)?;
     let paths = paths(alloc, name, entries)?;
     let detail = is_set(entries, "detail");
     Ok(Words {

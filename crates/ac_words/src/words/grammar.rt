@@ -328,6 +328,12 @@ fn hosts<'a>(alloc: Global) -> Result<Command<'a>, AllocError>
         help::HOSTS,
     )?;
     let command = add_tries(alloc, command)?;
+    let command = command.arg(option(
+        alloc,
+        "in",
+        "UUID",
+        "Writes of those roots alone that are in this aggregate, or have a provider in their tree that is",
+    ))?;
     command.arg(flag(
         alloc,
         "sum",
