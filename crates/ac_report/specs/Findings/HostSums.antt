@@ -10,7 +10,7 @@ use Rattle.ac_find.specs.declared.lacks.Stage.{Stage}
 use Rattle.ac_find.specs.declared.lacks.Stage.TheVariants as stage
 use Rattle.ac_find.specs.declared.lacks.Lack.{Lack}
 use Rattle.ac_find.specs.declared.lacks.Lack.TheVariants as lack
-use Rattle.ac_report.specs.Findings.HostRows.{asks_of, lack_name, roots_in_order, slot_shown}
+use Rattle.ac_report.specs.Findings.HostRows.{asks_of, lack_name, roots_within, slot_shown}
 
 -- ---- What roots may lack
 
@@ -43,9 +43,9 @@ lack_number (Some lack.RequiredTraits) = 2
 lack_number (Some lack.Together) = 3
 lack_number (Some (lack.Slot slot test)) = 6 * slot + stage_number test
 
--- what each root lacks
-abbrev pub lacks_of_roots : List Provider → Asked → List (Option Lack)
-lacks_of_roots all asked = map (lack_at all asked) (roots_in_order all)
+-- what each root lacks of those that are told
+abbrev pub lacks_within : List Provider → Asked → Option ℕ → List (Option Lack)
+lacks_within all asked within = map (lack_at all asked) (roots_within all within)
 
 -- how many of these are this
 abbrev pub count_lacks : List (Option Lack) → Option Lack → ℕ
@@ -78,5 +78,5 @@ rows_falling asked sums most = flat_map (λ i. rows_of_count asked sums (most - 
 abbrev pub sum_rows : Asked → List (Option Lack) → List Lack → List (List (List ℕ))
 sum_rows asked found kinds = (sum_columns ∷ fits_row (count_lacks found None) ∷ []) ++ rows_falling asked (counted found kinds) (length found)
 
-unfoldable pub sums_text : List Provider → Asked → List ℕ
-sums_text all asked = flat_map (row_text default_writer) (sum_rows asked (lacks_of_roots all asked) (possible_lacks (length (slots_of asked))))
+unfoldable pub sums_text : List Provider → Asked → Option ℕ → List ℕ
+sums_text all asked within = flat_map (row_text default_writer) (sum_rows asked (lacks_within all asked within) (possible_lacks (length (slots_of asked))))

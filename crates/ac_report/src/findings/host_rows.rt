@@ -13,8 +13,8 @@ use crate::findings::host_details::{asks_of, host_detail};
 use crate::findings::lacks::{lack_name, slot_digits};
 use crate::findings::within::roots_within;
 use crate::names::shown_name;
+use ac_base::NoMemory;
 use ac_base::rows::{begin_rows, end_rows, write_row};
-use ac_base::{Id, NoMemory};
 use ac_cloud::Cloud;
 use ac_find::{Lack, Wanting, find_wanting};
 use ac_query::Query;
@@ -70,7 +70,7 @@ pub fn hosts_text(
     alloc: Global,
     cloud: &Cloud,
     query: &Query,
-    within: Option<Id>,
+    within: Option<u128>,
     fits: &[bool],
     lacks: &[Option<Lack>],
 ) -> Result<Vec<u8>, NoMemory>
@@ -116,7 +116,7 @@ pub fn hosts_status(
     alloc: Global,
     cloud: &Cloud,
     query: &Query,
-    within: Option<Id>,
+    within: Option<u128>,
     fits: &[bool],
 ) -> Result<u8, NoMemory>
     requires { fits.now ≡ fitting (providers_of cloud.now) (asked_of query.now) }

@@ -1,15 +1,17 @@
 //! How many roots fit, and how many lack what, as `csv` writes it: a header, a row for those that fit, and one for each thing that is
 //! lacking, first for what most roots lack.
-ghost use Rattle.std.specs.Prelude.{◌≡◌, ◌++◌, ◌∷◌, ◌<◌, ◌≤◌, ◌^◌, ℕ, List, [], IfOk, length};
+ghost use Rattle.std.specs.Prelude.{◌≡◌, ◌++◌, ◌∷◌, ◌<◌, ◌≤◌, ◌^◌, ℕ, List, [], IfOk, length, map};
+ghost use Rattle.std.specs.List.{All};
 ghost use Rattle.ac_base.specs.Writing.Rows.{HasRows};
 ghost use Rattle.ac_cloud.specs.Cloud.CloudWorld.{providers_of};
 ghost use Rattle.ac_query.specs.Asked.{slots_of};
 ghost use Rattle.ac_query.specs.Shown.Queries.{asked_of};
-ghost use Rattle.ac_find.specs.Lacking.{lacks_of};
-ghost use Rattle.ac_report.specs.Findings.HostSums.{count_lacks, counted, fits_row, lack_number, lacks_of_roots, lacks_of_slot, possible_lacks, rows_falling, rows_of_count, stage_number, sum_row, sums_text};
+ghost use Rattle.ac_find.specs.Lacking.{lack_at, lacks_of};
+ghost use Rattle.ac_report.specs.Findings.HostSums.{count_lacks, counted, fits_row, lack_number, lacks_of_slot, possible_lacks, rows_falling, rows_of_count, stage_number, sum_row, sums_text};
 
 use crate::findings::host_details::asks_of;
 use crate::findings::lacks::{lack_name, slot_digits};
+use crate::findings::within::roots_within;
 use ac_base::NoMemory;
 use ac_base::pieces::digits::Digits;
 use ac_base::rows::{begin_rows, end_rows, write_row};
@@ -92,23 +94,22 @@ fn possible_lacks(alloc: Global, slots: usize) -> Result<Vec<Lack>, NoMemory>
     Ok(kinds)
 }
 
-// What each root lacks.
+// What each of some roots lacks.
 fn lacks_of_roots(
     alloc: Global,
     cloud: &Cloud,
     query: &Query,
+    roots: &[u32],
     lacks: &[Option<Lack>],
 ) -> Result<Vec<Option<Lack>>, NoMemory>
-    requires { lacks.now ≡ lacks_of (providers_of cloud.now) (asked_of query.now) }
-    ensures lacks { IfOk result (λ found.
-        found.items ≡ lacks_of_roots (providers_of cloud.now) (asked_of query.now)) }
-    ensures few { IfOk result (λ found. length found.items < 2 ^ 32) }
+    requires roots { All (λ r. r < length (providers_of cloud.now)) roots.now }
+    requires lacks { lacks.now ≡ lacks_of (providers_of cloud.now) (asked_of query.now) }
+    ensures { IfOk result (λ found. found.items
+        ≡ map (lack_at (providers_of cloud.now) (asked_of query.now)) roots.now) }
 {
     let mut found = Vec::new(alloc);
-    for root in 0..cloud.len() {
-        if cloud.available(root, root) {
-            found.push(lacks[root as usize])?;
-        }
+    for root in roots {
+        found.push(lacks[*root as usize])?;
     }
     Ok(found)
 }
@@ -207,19 +208,21 @@ fn write_falling(
     Ok(())
 }
 
-/// The text of `hosts --sum`, by what each provider lacks as a root.
+/// The text of `hosts --sum` of all roots, or of those of an aggregate alone, by what each provider lacks as a root.
 #[tactic(auto, unfolding(crate::specs::Findings::HostSums::sums_text))]
 pub fn sums_text(
     alloc: Global,
     cloud: &Cloud,
     query: &Query,
+    within: Option<u128>,
     lacks: &[Option<Lack>],
 ) -> Result<Vec<u8>, NoMemory>
     requires { lacks.now ≡ lacks_of (providers_of cloud.now) (asked_of query.now) }
     ensures { IfOk result (λ text.
-        text.items ≡ sums_text (providers_of cloud.now) (asked_of query.now)) }
+        text.items ≡ sums_text (providers_of cloud.now) (asked_of query.now) within) }
 {
-    let found = lacks_of_roots(alloc, cloud, query, lacks)?;
+    let roots = roots_within(alloc, cloud, within)?;
+    let found = lacks_of_roots(alloc, cloud, query, &roots, lacks)?;
     let kinds = possible_lacks(alloc, count_slots(query))?;
     let sums = counted(alloc, &found, &kinds)?;
     let mut rows = begin_rows(alloc, &[b"hosts", b"slot", b"lacks", b"asks"])?;

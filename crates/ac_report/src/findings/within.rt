@@ -1,5 +1,5 @@
 //! Which roots are told: all, or those of an aggregate.
-ghost use Rattle.std.specs.Prelude.{◌≡◌, ◌<◌, ◌&&◌, IfOk, None, Some, false, length, map, slice_index_or};
+ghost use Rattle.std.specs.Prelude.{◌≡◌, ◌<◌, ◌^◌, ◌&&◌, IfOk, None, Some, false, length, map, slice_index_or};
 ghost use Rattle.std.specs.List.{All, range_with_len};
 ghost use Rattle.ac_cloud.specs.Providers.{provider_of};
 ghost use Rattle.ac_cloud.specs.World.{id_at, is_member, is_root};
@@ -7,19 +7,22 @@ ghost use Rattle.ac_cloud.specs.Cloud.CloudWorld.{providers_of};
 ghost use Rattle.ac_report.specs.Findings.HostRows.{is_within, members_of, roots_within};
 
 use crate::page::mark_roots;
-use ac_base::{Id, NoMemory};
+use ac_base::NoMemory;
 use ac_cloud::{Cloud, Provider};
 use std::alloc::Global;
 
 // Whether a provider is a member of an aggregate.
-fn is_member(provider: &Provider, aggregate: Id) -> bool
+fn is_member(provider: &Provider, aggregate: u128) -> bool
     ensures { result ≡ is_member (provider_of provider.now) aggregate }
 {
-    provider.aggregates().contains(&aggregate)
+    provider
+        .aggregates()
+        .iter()
+        .any(|id| id.as_u128() == aggregate)
 }
 
 // The providers that are members of an aggregate.
-fn members_of(alloc: Global, cloud: &Cloud, aggregate: Id) -> Result<Vec<u32>, NoMemory>
+fn members_of(alloc: Global, cloud: &Cloud, aggregate: u128) -> Result<Vec<u32>, NoMemory>
     ensures { IfOk result (λ members.
         members.items ≡ members_of (providers_of cloud.now) aggregate) }
 {
@@ -36,7 +39,7 @@ fn mark_all(alloc: Global, cloud: &Cloud) -> Result<Vec<bool>, NoMemory>
 }
 
 // Those are marked that are roots of an aggregate.
-fn mark_roots_of(alloc: Global, cloud: &Cloud, aggregate: Id) -> Result<Vec<bool>, NoMemory>
+fn mark_roots_of(alloc: Global, cloud: &Cloud, aggregate: u128) -> Result<Vec<bool>, NoMemory>
     ensures { IfOk result (λ marks. marks.items
         ≡ map (is_within (providers_of cloud.now) (Some aggregate))
         (range_with_len 0 (length (providers_of cloud.now)))) }
@@ -48,7 +51,7 @@ fn mark_roots_of(alloc: Global, cloud: &Cloud, aggregate: Id) -> Result<Vec<bool
 }
 
 // Which providers are told, if they are roots.
-fn mark_within(alloc: Global, cloud: &Cloud, within: Option<Id>) -> Result<Vec<bool>, NoMemory>
+fn mark_within(alloc: Global, cloud: &Cloud, within: Option<u128>) -> Result<Vec<bool>, NoMemory>
     ensures { IfOk result (λ marks. marks.items ≡ map (is_within (providers_of cloud.now) within)
         (range_with_len 0 (length (providers_of cloud.now)))) }
 {
@@ -72,12 +75,13 @@ fn is_marked_root(cloud: &Cloud, marks: &[bool], ix: u32) -> bool
 pub(super) fn roots_within(
     alloc: Global,
     cloud: &Cloud,
-    within: Option<Id>,
+    within: Option<u128>,
 ) -> Result<Vec<u32>, NoMemory>
     ensures roots { IfOk result (λ roots.
         roots.items ≡ roots_within (providers_of cloud.now) within) }
     ensures below { IfOk result (λ roots.
         All (λ r. r < length (providers_of cloud.now)) roots.items) }
+    ensures few { IfOk result (λ roots. length roots.items < 2 ^ 32) }
 {
     let marks = mark_within(alloc, cloud, within)?;
     let mut roots = Vec::new(alloc);

@@ -2,11 +2,11 @@ use Rattle.std.proofs.Common.{◌≡◌, ◌∙◌, ◌<◌, ◌&&◌, ◌++◌,
 use Rattle.std.specs.Global.{Vec}
 use Rattle.std.specs.List.{All, filter, range_with_len}
 use Rattle.std.proofs.lemmas.List.Elements.{All-filter, All-from_recursion}
-use Rattle.std.proofs.lemmas.List.FromFn.{length-map-range_with_len}
+use Rattle.std.proofs.lemmas.List.FromFn.{length-map-range_with_len, length-range_with_len}
 use Rattle.ac_cloud.specs.Cloud.CloudWorld.{providers_of}
 use Rattle.ac_cloud.specs.World.{id_at, is_root}
 use Rattle.ac_rules.proofs.EachSlot.AnchorLemmas.{each_range}
-use Rattle.ac_prune.proofs.Search.OpenLemmas.{choice_more}
+use Rattle.ac_prune.proofs.Search.OpenLemmas.{choice_more, filter_few}
 use Rattle.ac_find.proofs.LackingLemmas.{at_place}
 use Rattle.ac_report.specs.Findings.HostRows.{is_within}
 use Rattle.ac_report.proofs.FoundTexts.RowsWritten.{both_tests}
@@ -53,3 +53,11 @@ returns-clause-below c =
     subst (All below) (sym c.loop-root.invariant)
     (All-filter (λ r. is_root all (id_at all r) && is_within all c.args.within r) below (range_with_len 0 n)
     (All-from_recursion below (range_with_len 0 n) (each_range 0 n (length all) (omega (arith, c.loop-root.auto.root-end, c.len-root-end.ensures)))))
+
+pub returns-clause-few : goal.returns-clause-few
+returns-clause-few c =
+    let all = providers_of c.args.cloud.now in
+    let roots = ap length c.loop-root.invariant in
+    let few = filter_few (λ r. is_root all (id_at all r) && is_within all c.args.within r) (range_with_len 0 c.loop-root.root) in
+    let size = length-range_with_len 0 c.loop-root.root in
+    omega (arith, roots, few, size, c.loop-root.auto.root-end, c.len-root-end.type_inv)
