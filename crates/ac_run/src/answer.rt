@@ -252,46 +252,48 @@ fn write_explanation<W: Sink>(
     Ok(explanation_status(found))
 }
 
-// The rows of the roots, or how many of them lack what.
+// The rows of the roots, or how many of them lack what: of all roots, or of those of an aggregate alone.
 fn hosts_told(
     alloc: Global,
     cloud: &Cloud,
     query: &Query,
     sum: bool,
+    within: Option<u128>,
     fits: &[bool],
     lacks: &[Option<Lack>],
 ) -> Result<Vec<u8>, NoMemory>
     requires fits { fits.now ≡ fitting (providers_of cloud.now) (asked_of query.now) }
     requires lacks { lacks.now ≡ lacks_of (providers_of cloud.now) (asked_of query.now) }
     ensures { IfOk result (λ text.
-        text.items ≡ hosts_told sum (providers_of cloud.now) (asked_of query.now)) }
+        text.items ≡ hosts_told sum within (providers_of cloud.now) (asked_of query.now)) }
 {
     if sum {
-        sums_text(alloc, cloud, query, lacks)
+        sums_text(alloc, cloud, query, within, lacks)
     } else {
-        hosts_text(alloc, cloud, query, None, fits, lacks)
+        hosts_text(alloc, cloud, query, within, fits, lacks)
     }
 }
 
-// Which roots fit, and what the others lack, or how many of them lack what.
+// Which roots fit, and what the others lack, or how many of them lack what: of all roots, or of those of an aggregate alone.
 #[tactic(auto, using(crate::proofs::Delivering::refused))]
 fn write_hosts<W: Sink>(
     alloc: Global,
     cloud: &Cloud,
     query: &Query,
     sum: bool,
+    within: Option<u128>,
     tries: Option<u64>,
     out: &mut W,
 ) -> Result<u8, PageFault>
-    ensures { Delivers (host_rows (providers_of cloud.now) sum (asked_of query.now) None)
+    ensures { Delivers (host_rows (providers_of cloud.now) sum within (asked_of query.now) None)
         (MayStop tries (providers_of cloud.now) (asked_of query.now) None)
         result
         (W.taken out.old) (W.taken out.new) (W.failures out.old) (W.failures out.new) }
 {
     let fits = fitting_roots(alloc, cloud, query, tries)?;
     let lacks = find_lacks(alloc, cloud, query, &fits)?;
-    let text = hosts_told(alloc, cloud, query, sum, &fits, &lacks)?;
-    let status = hosts_status(alloc, cloud, query, None, &fits)?;
+    let text = hosts_told(alloc, cloud, query, sum, within, &fits, &lacks)?;
+    let status = hosts_status(alloc, cloud, query, within, &fits)?;
     push_text(out, &text, status)
 }
 
@@ -343,7 +345,9 @@ pub fn write_answer<W: Sink>(
             write_verdict(alloc, cloud, query, token, *detail, out)
         }
         Wanted::Explanation(question) => write_explanation(alloc, cloud, question, tries, out),
-        Wanted::Hosts(query, sum) => write_hosts(alloc, cloud, query, *sum, tries, out),
+        Wanted::Hosts(query, sum, within) => {
+            write_hosts(alloc, cloud, query, *sum, *within, tries, out)
+        }
         Wanted::Why(query, host) => write_why(alloc, cloud, query, *host, tries, out),
     }
 }
