@@ -507,21 +507,25 @@ def slot_detail(root, suffix, needs, text, query, cloud):
     return f'{nobodys[0]}: nobody here' if nobodys else detail(furthest, suffix, needs, STAGES[far(furthest)[0]], text, query)
 
 
-def host_rows(found, text, query, cloud):
+def roots_of(cloud, within=None):
+    """All roots, or those of an aggregate: it is theirs or that of a provider of their tree."""
+    return [root for root in cloud if root.root() is root and (within is None or any(within in provider.aggregates for provider in cloud if provider.root() is root))]
+
+
+def host_rows(found, text, query, cloud, within=None):
     """Which roots fit, and what the others lack, with what the slot asks and what is wanting there."""
     rows = [['root', 'name', 'fits', 'slot', 'lacks', 'asks', 'detail']]
-    for root in cloud:
-        if root.root() is root:
-            slot, lack = lacks(root, found, query, cloud)
-            suffix, needs = [*query.slots()][slot - 1] if slot else ('', {})
-            wanting = slot_detail(root, suffix, needs, text, query, cloud) if slot else unmet_by_root(root, query)[0] if lack == 'root traits' else ''
-            rows.append([root.name, '', 'no' if lack else 'yes', slot, lack, asks(needs), wanting])
+    for root in roots_of(cloud, within):
+        slot, lack = lacks(root, found, query, cloud)
+        suffix, needs = [*query.slots()][slot - 1] if slot else ('', {})
+        wanting = slot_detail(root, suffix, needs, text, query, cloud) if slot else unmet_by_root(root, query)[0] if lack == 'root traits' else ''
+        rows.append([root.name, '', 'no' if lack else 'yes', slot, lack, asks(needs), wanting])
     return written(rows)
 
 
-def host_sums(found, query, cloud):
+def host_sums(found, query, cloud, within=None):
     """How many roots lack what: those that fit, then the others by falling number, without a slot first, then slot by slot and test by test."""
-    counts = collections.Counter(lacks(root, found, query, cloud) for root in cloud if root.root() is root)
+    counts = collections.Counter(lacks(root, found, query, cloud) for root in roots_of(cloud, within))
     fit = counts.pop(('', ''), 0)
     order = 'root traits', 'required traits', 'together', *STAGES
     rows = sorted(counts.items(), key=lambda one: (-one[1], one[0][0] or 0, order.index(one[0][1])))
@@ -832,6 +836,12 @@ def asked(name, chance, cloud, query, every, judged):
     yield Case(f'{name}: tokens, in detail', ['tokens', '--detail', text, *version], lines(*map(names, found)), noted, tables=made)
     yield Case(f'{name}: hosts, in detail', ['hosts', '--detail', text, *version], full(host_rows(found, drawn_text, query, cloud)), noted, 0 if found else 1, made)
     yield Case(f'{name}: fill, in detail', ['fill', '--detail', '--sum', text, *version], sum_text(len(placed), most, short), noted, 0 if placed else 1, made)
+    within = chance.choice(AGGREGATES)
+    fit = any(lacks(root, found, query, cloud) == ('', '') for root in roots_of(cloud, within))
+    yield Case(f'{name}: hosts of an aggregate', ['hosts', '--in', full(within), text, *version], full(host_rows(found, drawn_text, query, cloud, within)),
+               status=0 if fit else 1, tables=made)
+    yield Case(f'{name}: hosts of an aggregate, in sum', ['hosts', '--sum', '--in', full(within), text, *version], host_sums(found, query, cloud, within),
+               status=0 if fit else 1, tables=made)
     yield Case(f'{name}: hosts, in sum', ['hosts', '--sum', text, *version], host_sums(found, query, cloud), status=0 if found else 1, tables=made)
     yield Case(f'{name}: why', ['why', text, full(host.name), *version], full(why), status=0 if why.endswith(',fits\n') else 1, tables=made)
     yield Case(f'{name}: verify', ['verify', text, full(names(every[one])), *version], line, status=1 if rule else 0, tables=made)

@@ -157,6 +157,10 @@ WORDS = [
     refused('no query for hosts', over(['hosts'])),
     refused('a token for hosts', over(['hosts', 'resources=VCPU:2', ONE_HOST.strip()])),
     refused('--after for hosts', over(['hosts', 'resources=VCPU:2', '--after', ONE_HOST.strip()]), '--after'),
+    *(refused(f'{value} for --in', over(['hosts', 'resources=VCPU:2', f'--in={value}']), f"invalid value '{value}' for '--in <UUID>'", 'Usage: ac_cli hosts')
+      for value in ('', 'az1', ONE_HOST.strip()[:-1])),
+    refused('--in without a value', over(['hosts', 'resources=VCPU:2', '--in']), '--in'),
+    refused('--in for why', over(['why', 'resources=VCPU:2', ONE_HOST.strip(), '--in', ONE_HOST.strip()]), '--in'),
     refused('no host for why', over(['why', 'resources=VCPU:2']), '<HOST>', 'Usage: ac_cli why'),
     *(refused(f'{value} for --tries', [*tokens('resources=VCPU:2'), f'--tries={value}'], f"invalid value '{value}' for '--tries <N>'", 'Usage: ac_cli tokens')
       for value in ('', '-1', 'x', '1.5', '2147483648')),
