@@ -10,6 +10,7 @@ import json
 import os
 import random
 import re
+import struct
 from dataclasses import dataclass, field, replace
 
 from cases import GREATEST, Case, full, lines, tables
@@ -226,7 +227,7 @@ def explanation(found, query, cloud):
     if not found:
         told += [f'{name}: {"some" if has_candidate(other, cloud) else "none"}' for name, other in without(query)]
         told.append(f'because {reason(query, cloud, taken, whole, held)}')
-    told += [difference_line(words) for words, concerns in zip(headings(), concerned(query, cloud), strict=True) if concerns and (found or words in ADDING)]
+    told += difference_lines(found, query, cloud)
     return ''.join(line + '\n' for line in told)
 
 
@@ -299,29 +300,56 @@ def headings():
     return [words_of(heading) for part in parts for heading in re.findall('^### (.*)$', part, re.M)]
 
 
-# What adds candidates, or refuses the query; all else takes candidates away, and shows nowhere where there is none.
-ADDING = 'the tree of a group without resources', 'when a policy is needed'
+# What adds candidates, refuses the query or fails; all else takes candidates away, and shows nowhere where there is none.
+ADDING = ('status 500 if the sharing provider has a parent', 'the tree of a group without resources', 'when a policy is needed',
+          'a trait that is required and forbidden')
+
+# What the service does, and what to do, in the order of the headings.
+ADVICE = (
+    'the service gives wrong amounts and loses candidates; ask with group_policy=none, or for each class in one group',
+    'the service looks for the granular groups in one tree alone; ask for what is shared in a granular group, too',
+    'the service fails with status 500; let the sharing provider be a root',
+    'the service finds no provider for it; require a trait in it, or leave it out',
+    'the service ignores its in_tree; name the tree in a group with resources',
+    'the service refuses the query with status 400; add group_policy',
+    'the service refuses the query with status 400; leave one of them out',
+    'the service wants a provider of its own for each group; ask with group_policy=none',
+    'the service wants one of them to meet both; add the provider to both aggregates',
+    'the service looks at the root of the tree that uses the provider; forbid it in a granular group',
+    'the service wants the sharing provider itself in the aggregate; add it there',
+    'the service lets the provider serve only its own tree; name the tree in a granular group',
+    'the service computes another capacity; choose a ratio in quarters, as 8.25',
+    'the service leaves that tree out of provider_summaries; look it up in /resource_providers',
+)
 
 
 def difference_line(words):
-    return f'differs: {words} (docs/DIFFERENCES.md)'
+    return f'differs: {words}: {ADVICE[headings().index(words)]} (docs/DIFFERENCES.md)'
+
+
+def difference_lines(found, query, cloud):
+    """Those that may show, by whether there is a candidate."""
+    return [difference_line(words) for words, concerns in zip(headings(), concerned(query, cloud), strict=True) if concerns and (found or words in ADDING)]
 
 
 def meets_rules(aggregates, group):
     return all(bool(aggregates & set(listed)) != forbids for forbids, listed in group.rules)
 
 
-def falls_short(has):
-    """Whether the exact capacity is whole before it is rounded, and no 64ths make the ratio."""
-    return (has.total - has.reserved) * has.ratio % 1000000 == 0 and has.ratio * 64 % 1000000 != 0
+def single(value):
+    """The number of single precision that is nearest."""
+    return struct.unpack('f', struct.pack('f', value))[0]
 
 
-def takes_last(provider, needs, query):
-    """Whether a slot has room for a class whose last unit the query may take, in an inventory that may fall short of it."""
+def counts_otherwise(provider, needs, query):
+    """Whether a provider has another capacity as a double for one of these classes; or a smaller one by a ratio in single precision, and room for what is
+    asked, while the query asks for more than is left then."""
     for name, amount in needs.items():
         has = provider.has[name]
+        free, ratio = has.total - has.reserved, float(f'{has.ratio // 1000000}.{has.ratio % 1000000:06}')
         asked = sum(group.needs.get(name, 0) for group in query.groups.values())
-        if falls_short(has) and amount <= has.capacity() - has.used <= asked:
+        smaller = int(free * single(ratio))
+        if int(free * ratio) != has.capacity() or smaller < has.capacity() and amount + has.used <= has.capacity() and asked > max(smaller - has.used, 0):
             return True
     return False
 
@@ -336,29 +364,54 @@ def concerned(query, cloud):
     bare = [group for group in query.groups.values() if not group.needs]
     asking = [group for group in bare if group.required or group.any_of or not all(forbids for forbids, _ in group.rules)]
 
-    def lent(some):
-        return [provider for provider in some if SHARES in provider.traits]
+    serving = [[provider for provider in some if has_room(provider, needs)] for _, needs, _, some in fitting]
+    numbers = range(len(fitting))
+
+    def several(provider):
+        return sum(root.root() is root and available(provider, root, cloud) for root in cloud) > 1
+
+    def lent(needs, some):
+        return [provider for provider in some if several(provider) and has_room(provider, needs)]
+
+    def gives(provider, needs):
+        """Whether it gives an unsuffixed slot what this asks, whatever its traits."""
+        return not {'Units', 'Aggregates'} & set(broken_by_one(provider, '', needs, query, cloud)) and has_room(provider, needs)
+
+    def below(needs, group, provider):
+        """Whether a sharing provider below a parent gives a slot what this asks, and neither it nor its root another slot."""
+        return (provider.parent and several(provider) and gives(provider, needs) and meets_rules(provider.aggregates, group)
+                and any(not gives(provider, other) and not gives(provider.root(), other) for other, _, _ in plain))
+
+    def outside(group):
+        """Whether a provider outside the tree that a group without resources names meets its other rules."""
+        suffix = next(suffix for suffix, other in query.groups.items() if other is group)
+        return any(list(broken_by_one(provider, suffix, {}, query, cloud)) == ['Tree'] for provider in cloud)
 
     def beside(needs, aggregates):
         """Whether a sharing provider outside these aggregates has what a slot asks for, and a root is in them."""
         return any(root.root() is root and root.aggregates & aggregates for root in cloud) and any(
-            not provider.aggregates & aggregates and not {'Units', 'SlotTraits'} & set(broken_by_one(provider, '', needs, query, cloud)) for provider in lent(cloud))
+            several(provider) and not provider.aggregates & aggregates and not {'Units', 'SlotTraits'} & set(broken_by_one(provider, '', needs, query, cloud))
+            and has_room(provider, needs) for provider in cloud)
 
-    yield not (query.told and not query.isolate) and '' in query.groups and any(
-        set(query.groups[suffix].needs) & set(query.groups[''].needs) for suffix in suffixes)
-    yield bool(suffixes and plain) and len(free) == len(plain) and all(lent(some) for _, _, some in plain)
-    yield any(provider.parent and meets_rules(provider.aggregates, group) for _, group, some in free for provider in lent(some))
+    yield not (query.told and not query.isolate) and any(
+        not fitting[s][0] and fitting[t][0] and set(fitting[s][1]) & set(fitting[t][1]) and any(provider in serving[t] for provider in serving[s])
+        for s in numbers for t in numbers) and any(provider.parent or several(provider) for some in serving for provider in some)
+    yield bool(suffixes and plain) and len(free) == len(plain) and all(lent(needs, some) for needs, _, some in plain)
+    yield any(below(needs, group, provider) for needs, group, _ in free for provider in cloud) and all(
+        any(gives(provider, needs) for provider in cloud) for needs, _, _ in plain)
     yield any(group not in asking for group in bare)
-    yield any(group.tree for group in asking)
+    yield any(group.tree and outside(group) for group in asking) and all(some for _, needs, _, some in fitting if needs)
     yield not query.told and len(suffixes) > 1
+    yield any(group.required & group.forbidden or any(set(listed) <= group.forbidden for listed in group.any_of) for group in query.groups.values())
     yield query.isolate and bool(bare) and len(suffixes) > 1
     yield any(not meets_rules(provider.aggregates, group) and not meets_rules(provider.root().aggregates, group)
               for _, group, some in plain for provider in some)
     yield any(forbids and beside(needs, set(listed)) for needs, group, _ in free for forbids, listed in group.rules)
-    yield any(not meets_rules(provider.aggregates, group) for _, group, some in free for provider in lent(some))
-    yield any(group.tree and lent(some) for _, group, some in plain)
-    yield any(takes_last(provider, needs, query) for _, needs, _, some in fitting for provider in some)
-    yield bool(bare) and (any(lent(some) for _, needs, _, some in fitting if not needs) or all(lent(some) for _, needs, _, some in fitting if needs))
+    yield any(not meets_rules(provider.aggregates, group) for needs, group, some in free for provider in lent(needs, some))
+    yield any(group.tree and lent(needs, some) for needs, group, some in plain)
+    yield any(counts_otherwise(provider, needs, query) for _, needs, _, some in fitting for provider in some)
+    yield bool(bare) and (any(lent(needs, some) for _, needs, _, some in fitting if not needs)
+                          or all(lent(needs, some) for _, needs, _, some in fitting if needs))
 
 
 STAGES = 'no inventory', 'units', 'traits', 'aggregates', 'tree', 'room'
@@ -454,21 +507,25 @@ def slot_detail(root, suffix, needs, text, query, cloud):
     return f'{nobodys[0]}: nobody here' if nobodys else detail(furthest, suffix, needs, STAGES[far(furthest)[0]], text, query)
 
 
-def host_rows(found, text, query, cloud):
+def roots_of(cloud, within=None):
+    """All roots, or those of an aggregate: it is theirs or that of a provider of their tree."""
+    return [root for root in cloud if root.root() is root and (within is None or any(within in provider.aggregates for provider in cloud if provider.root() is root))]
+
+
+def host_rows(found, text, query, cloud, within=None):
     """Which roots fit, and what the others lack, with what the slot asks and what is wanting there."""
     rows = [['root', 'name', 'fits', 'slot', 'lacks', 'asks', 'detail']]
-    for root in cloud:
-        if root.root() is root:
-            slot, lack = lacks(root, found, query, cloud)
-            suffix, needs = [*query.slots()][slot - 1] if slot else ('', {})
-            wanting = slot_detail(root, suffix, needs, text, query, cloud) if slot else unmet_by_root(root, query)[0] if lack == 'root traits' else ''
-            rows.append([root.name, '', 'no' if lack else 'yes', slot, lack, asks(needs), wanting])
+    for root in roots_of(cloud, within):
+        slot, lack = lacks(root, found, query, cloud)
+        suffix, needs = [*query.slots()][slot - 1] if slot else ('', {})
+        wanting = slot_detail(root, suffix, needs, text, query, cloud) if slot else unmet_by_root(root, query)[0] if lack == 'root traits' else ''
+        rows.append([root.name, '', 'no' if lack else 'yes', slot, lack, asks(needs), wanting])
     return written(rows)
 
 
-def host_sums(found, query, cloud):
+def host_sums(found, query, cloud, within=None):
     """How many roots lack what: those that fit, then the others by falling number, without a slot first, then slot by slot and test by test."""
-    counts = collections.Counter(lacks(root, found, query, cloud) for root in cloud if root.root() is root)
+    counts = collections.Counter(lacks(root, found, query, cloud) for root in roots_of(cloud, within))
     fit = counts.pop(('', ''), 0)
     order = 'root traits', 'required traits', 'together', *STAGES
     rows = sorted(counts.items(), key=lambda one: (-one[1], one[0][0] or 0, order.index(one[0][1])))
@@ -775,6 +832,16 @@ def asked(name, chance, cloud, query, every, judged):
     yield Case(f'{name}: fill, in sum', ['fill', '--sum', text + limit, *version], sum_text(len(placed), most, short), status=0 if placed else 1, tables=made)
     yield Case(f'{name}: explain', ['explain', text, *version], full(explanation(found, query, cloud)), status=0 if found else 1, tables=made)
     yield Case(f'{name}: hosts', ['hosts', text, *version], full(host_rows(found, drawn_text, query, cloud)), status=0 if found else 1, tables=made)
+    noted = ''.join(line + '\n' for line in difference_lines(True, query, cloud))
+    yield Case(f'{name}: tokens, in detail', ['tokens', '--detail', text, *version], lines(*map(names, found)), noted, tables=made)
+    yield Case(f'{name}: hosts, in detail', ['hosts', '--detail', text, *version], full(host_rows(found, drawn_text, query, cloud)), noted, 0 if found else 1, made)
+    yield Case(f'{name}: fill, in detail', ['fill', '--detail', '--sum', text, *version], sum_text(len(placed), most, short), noted, 0 if placed else 1, made)
+    within = chance.choice(AGGREGATES)
+    fit = any(lacks(root, found, query, cloud) == ('', '') for root in roots_of(cloud, within))
+    yield Case(f'{name}: hosts of an aggregate', ['hosts', '--in', full(within), text, *version], full(host_rows(found, drawn_text, query, cloud, within)),
+               status=0 if fit else 1, tables=made)
+    yield Case(f'{name}: hosts of an aggregate, in sum', ['hosts', '--sum', '--in', full(within), text, *version], host_sums(found, query, cloud, within),
+               status=0 if fit else 1, tables=made)
     yield Case(f'{name}: hosts, in sum', ['hosts', '--sum', text, *version], host_sums(found, query, cloud), status=0 if found else 1, tables=made)
     yield Case(f'{name}: why', ['why', text, full(host.name), *version], full(why), status=0 if why.endswith(',fits\n') else 1, tables=made)
     yield Case(f'{name}: verify', ['verify', text, full(names(every[one])), *version], line, status=1 if rule else 0, tables=made)

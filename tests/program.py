@@ -157,6 +157,10 @@ WORDS = [
     refused('no query for hosts', over(['hosts'])),
     refused('a token for hosts', over(['hosts', 'resources=VCPU:2', ONE_HOST.strip()])),
     refused('--after for hosts', over(['hosts', 'resources=VCPU:2', '--after', ONE_HOST.strip()]), '--after'),
+    *(refused(f'{value} for --in', over(['hosts', 'resources=VCPU:2', f'--in={value}']), f"invalid value '{value}' for '--in <UUID>'", 'Usage: ac_cli hosts')
+      for value in ('', 'az1', ONE_HOST.strip()[:-1])),
+    refused('--in without a value', over(['hosts', 'resources=VCPU:2', '--in']), '--in'),
+    refused('--in for why', over(['why', 'resources=VCPU:2', ONE_HOST.strip(), '--in', ONE_HOST.strip()]), '--in'),
     refused('no host for why', over(['why', 'resources=VCPU:2']), '<HOST>', 'Usage: ac_cli why'),
     *(refused(f'{value} for --tries', [*tokens('resources=VCPU:2'), f'--tries={value}'], f"invalid value '{value}' for '--tries <N>'", 'Usage: ac_cli tokens')
       for value in ('', '-1', 'x', '1.5', '2147483648')),
@@ -454,10 +458,10 @@ def ruled(page):
                 yield Case(f'{page}: {line}', ['tokens', full(query), *after, *version], lines(*names), tables=tables(cloud))
 
 
-def named(heading, cloud, query, said, lacks, others):
+def named(heading, cloud, query, said, lacks, others, version):
     """What `explain` is to say of a query that stands under a heading of docs/DIFFERENCES.md: nothing where the service answers as the program, or
     where the query is refused."""
-    out, _, status = run(Case('', ['candidates', query], tables=cloud))
+    out, _, status = run(Case('', ['candidates', query, '--microversion', version], tables=cloud))
     if status or (told(200, json.loads(out), query) in answers(said) and not lacks):
         return ''
     return ''.join(difference_line(words) + '\n' for words in headings() if words in (words_of(heading), *others))
@@ -466,8 +470,8 @@ def named(heading, cloud, query, said, lacks, others):
 def concerned():
     """`explain` names the heading that each query of docs/DIFFERENCES.md stands under, where the service answers otherwise, and no other."""
     for one in differences('mariadb'):
-        heading, cloud, query, *_ = one
-        yield Case(f'docs/DIFFERENCES.md: {heading}: explain {short(query)}', ['sh', '-c', '"$@" 2>/dev/null | grep "^differs: " || true', 'differs', PROGRAM, 'explain', query],
+        heading, cloud, query, *_, version = one
+        yield Case(f'docs/DIFFERENCES.md: {heading}: explain {short(query)}', ['sh', '-c', '"$@" 2>/dev/null | grep "^differs: " || true', 'differs', PROGRAM, 'explain', query, '--microversion', version],
                    lambda one=one: named(*one), tables=cloud)
 
 

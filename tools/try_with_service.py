@@ -51,10 +51,10 @@ class Service:
     def __init__(self, url):
         self.url = url
 
-    def ask(self, method, path, body=None):
+    def ask(self, method, path, body=None, version=VERSION):
         """The status, and the body: what its JSON says, or else its text."""
         data = None if body is None else json.dumps(body).encode()
-        headers = {'X-Auth-Token': 'admin', 'OpenStack-API-Version': f'placement {VERSION}', 'Accept': 'application/json',
+        headers = {'X-Auth-Token': 'admin', 'OpenStack-API-Version': f'placement {version}', 'Accept': 'application/json',
                    'Content-Type': 'application/json'}
         request = urllib.request.Request(self.url + path, data, headers, method=method)
         try:
@@ -73,8 +73,8 @@ class Service:
             raise Refused(f'{method} {path}: {status}: {answer}')
         return answer
 
-    def candidates(self, query):
-        return self.ask('GET', '/allocation_candidates?' + query)
+    def candidates(self, query, version=VERSION):
+        return self.ask('GET', '/allocation_candidates?' + query, version=version)
 
     def clear(self):
         """Deletes all allocations and providers."""
@@ -291,16 +291,17 @@ def answers(said):
 
 def differences(database):
     """The examples of docs/DIFFERENCES.md: the heading, the cloud, a query, what the service must answer over this database, which providers must be
-    missing from its summaries, and what `explain` names beside the heading."""
+    missing from its summaries, what `explain` names beside the heading, and the microversion."""
     with open(PAGE, encoding='utf-8') as file:
         page = file.read()
     for part in re.split('^##+ ', page, flags=re.M)[1:]:
         for table in re.finditer(r'^\| provider \|.*\n\|[-|]+\n((?:\|.*\n)+)\n((?:- `.*\n(?:  .*\n)+)+)', part, re.M):
             cloud = tables_of('\n'.join(row.strip('|') for row in table[1].splitlines()))
-            for one in re.finditer(r'^- `([^`]*)`.*\n((?:  .*\n)+)', table[2], re.M):
-                said = dict(re.findall(r'^  - ([^:]*): (.*)$', one[2], re.M))
+            for one in re.finditer(r'^- `([^`]*)`( by 1.39)?.*\n((?:  .*\n)+)', table[2], re.M):
+                said = dict(re.findall(r'^  - ([^:]*): (.*)$', one[3], re.M))
                 lacks, others = (re.findall('`(.*?)`', said.get(key, '')) for key in ('missing in its summaries', '`explain` also names'))
-                yield part.splitlines()[0], cloud, full(one[1]), said.get(f'the service over {database}', said['the service']), lacks, others
+                version = '1.39' if one[2] else VERSION
+                yield part.splitlines()[0], cloud, full(one[1]), said.get(f'the service over {database}', said['the service']), lacks, others, version
 
 
 class Trial:
@@ -431,13 +432,13 @@ class Trial:
     def differ(self):
         """Tries whether the service answers as docs/DIFFERENCES.md says."""
         filled = None
-        for heading, cloud, query, said, lacks, _ in differences(self.name):
+        for heading, cloud, query, said, lacks, _, version in differences(self.name):
             if cloud != filled:
                 self.service.fill({name: read(text) for name, text in cloud.items()})
                 filled = cloud
             for kind, name in names(query):
                 self.service.name(kind, name)
-            status, body = self.service.candidates(query)
+            status, body = self.service.candidates(query, version)
             its = told(status, body, query)
             still = its in answers(said) and not any(full(provider) in body['provider_summaries'] for provider in lacks)
             self.say(still, f'{heading}: {short(query)}: ' + (

@@ -1,5 +1,5 @@
 -- How the program ends, and what it leaves on its streams.
-use Rattle.std.specs.Prelude.{◌≡◌, ◌≢◌, ◌<◌, ◌≤◌, ◌⊎◌, ℕ, zero, List, [], ◌∷◌, ◌++◌, codes, length, Option, Some, None, Contains, if◌then◌else◌}
+use Rattle.std.specs.Prelude.{◌≡◌, ◌≢◌, ◌<◌, ◌≤◌, ◌⊎◌, ℕ, zero, List, [], ◌∷◌, ◌++◌, codes, length, nat_le, Option, Some, None, Contains, if◌then◌else◌}
 use Rattle.std.specs.Io.KnownBytes.{Appends, Keeps, append_known}
 use Rattle.clap.specs.Words.{IsAmong, Kinds, Row, Text}
 use Rattle.clap.specs.declared.error.kind.ErrorKind.{ErrorKind}
@@ -13,6 +13,7 @@ use Rattle.ac_remedies.specs.Tables.{unread_remedy}
 use Rattle.ac_run.specs.Answer.{Outcome, answer}
 use Rattle.ac_run.specs.Feeds.{Bytes, FeedRose, TellBytes}
 use Rattle.ac_run.specs.Lines.{memory_line, output_line, tries_line, unreadable_line}
+use Rattle.ac_run.specs.Notes.{noted}
 use Rattle.ac_run.specs.Run.{FailsOr, IsAnswered, IsRefused, IsUnread}
 use Rattle.ac_base.specs.Writing.{TakesLine}
 use Rattle.ac_run.specs.Stops.{TaskMayStop}
@@ -103,14 +104,21 @@ abbrev pub note_of : Command → Option Paths → ℕ → List ℕ
 note_of check (Some paths) zero = note_for paths.usages
 note_of _ _ _ = []
 
+-- what is told behind the answer to any other command: the note of its run, if that wrote an answer
+abbrev pub note_behind : Command → Option Paths → ℕ → List ℕ → List ℕ
+note_behind check detail given note = note_of check detail given
+note_behind _ detail given note = if nat_le given 1 then note else []
+
 -- A task was run over feeds that were these before and after, and then a note was told. In between the error stream had failed no more often than in the end,
--- and no less often than at first, so a line that is missing failed to be written.
+-- and no less often than at first, so a line that is missing failed to be written. Over bytes the note of the run is theirs.
 pub record RanJob {R : Type 0} (remaining : R → Option (List ℕ)) (failures : R → ℕ) (task : Task) (from to : FiveTables R) (s : Streams) (given : ℕ) : Type 0 where
   pub err : Option (List ℕ)
   pub count : ℕ
   pub later : count ≤ s.err_after
   pub ran : RanTask remaining failures task from to (record s { err_new = err; err_after = count }) given
-  pub note : TakesLine err s.err_new count s.err_after (note_of task.command task.detail given)
+  pub said : List ℕ
+  pub tied : given ≤ 1 → (b : Bytes) → TellBytes remaining from b → said ≡ noted task b
+  pub note : TakesLine err s.err_new count s.err_after (note_behind task.command task.detail given said)
 
 -- ---- a session
 

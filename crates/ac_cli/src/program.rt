@@ -3,8 +3,10 @@ ghost use Rattle.std.specs.Prelude.{◌≡◌, ◌≤◌, map, string_bytes};
 ghost use Rattle.std.specs.Io.KnownBytes.{Appends};
 ghost use Rattle.ac_base.specs.Devices.{Rises, TakesPart};
 ghost use Rattle.ac_base.specs.Writing.{TakesLine};
+ghost use Rattle.ac_run.specs.Feeds.{Bytes, TellBytes};
+ghost use Rattle.ac_run.specs.Notes.{noted};
 ghost use Rattle.ac_run.specs.Tasks.{command_shown, detail_shown, paths_shown, task_of};
-ghost use Rattle.ac_cli.specs.Program.{EndsForLine, EndsForWords, EndsProgram, HeldSession, IsShown, IsToldUnopened, RanJob, RanSample, RanTask, detail_in, note_of, seen};
+ghost use Rattle.ac_cli.specs.Program.{EndsForLine, EndsForWords, EndsProgram, HeldSession, IsShown, IsToldUnopened, RanJob, RanSample, RanTask, detail_in, note_behind, seen};
 
 use crate::files::{Unopened, opened_inputs};
 use crate::host::{Host, Unworded};
@@ -31,22 +33,25 @@ fn tell_text<E: Sink>(err: &mut E, text: &[u8])
 }
 
 // Runs a job, and gathers its output: it is handed on in pieces of 65536 bytes, and at the end. Gives the status, and the output sink. Of an answer that
-// ends with 6 or 7 the last piece isn't handed on; where a search stopped, it is, as far as the sink takes it.
+// ends with 6 or 7 the last piece isn't handed on; where a search stopped, it is, as far as the sink takes it. In `note` stands what is to be told behind it.
 fn ran<F: Feed, W: Sink + Drop, E: Sink>(
     alloc: Global,
     job: &Job<'_>,
     inputs: &mut Inputs<F>,
     out: W,
     err: &mut E,
+    note: &mut Vec<u8>,
 ) -> (u8, W)
-    ensures { RanTask F.remaining F.failures (task_of job.now) inputs.old inputs.new
+    ensures ran { RanTask F.remaining F.failures (task_of job.now) inputs.old inputs.new
         (seen W.taken W.failures E.taken E.failures out result.1 err.old err.new) result.0 }
+    ensures note { result.0 ≤ 1 → (b : Bytes) → TellBytes F.remaining inputs.old b
+        → note.new.items ≡ noted (task_of job.now) b }
 {
     let Ok(room) = vec![in alloc; 0u8; ROOM] else {
         return (tell(err, &Refused::of(alloc, Refusal::NoMemory)), out);
     };
     let mut gathering = Gathering::new(out, room);
-    let status = run(alloc, job, inputs, &mut gathering, err);
+    let status = run(alloc, job, inputs, &mut gathering, err, note);
     if status == 8 {
         let (_, out) = gathering.finish();
         return (status, out);
@@ -60,15 +65,18 @@ fn ran<F: Feed, W: Sink + Drop, E: Sink>(
     }
 }
 
-// What is told behind the answer to a job.
+// What is told behind the answer to a job, by the note of its run.
 #[tactic(auto, unfolding(crate::specs::Program::usages_note))]
-fn note_of(job: &Job<'_>, status: u8) -> &'static [u8]
-    ensures { result.now ≡ note_of (task_of job.now).command (task_of job.now).detail status }
+fn note_behind<'a>(job: &Job<'_>, status: u8, note: &'a [u8]) -> &'a [u8]
+    ensures { result.now
+        ≡ note_behind (task_of job.now).command (task_of job.now).detail status note.now }
 {
     match (job.command, job.detail, status) {
         (Command::Check, Some(Paths { usages: None, .. }), 0) => {
             b"usages: no table is given, so nothing counts as used\n"
         }
+        (Command::Check, _, _) => b"",
+        (_, _, 0 | 1) => note,
         _ => b"",
     }
 }
@@ -84,8 +92,9 @@ fn ran_job<F: Feed, W: Sink + Drop, E: Sink>(
     ensures { RanJob F.remaining F.failures (task_of job.now) inputs.old inputs.new
         (seen W.taken W.failures E.taken E.failures out result.1 err.old err.new) result.0 }
 {
-    let (status, out) = ran(alloc, job, inputs, out, err);
-    tell_text(err, note_of(job, status));
+    let mut note = Vec::new(alloc);
+    let (status, out) = ran(alloc, job, inputs, out, err, &mut note);
+    tell_text(err, note_behind(job, status, &note));
     (status, out)
 }
 
@@ -217,7 +226,15 @@ fn answer_sample<W: Sink + Drop, E: Sink>(alloc: Global, out: W, err: &mut E) ->
         ⟦<FromRead<&'static [u8]> as Feed>⟧.failures
         (seen W.taken W.failures E.taken E.failures out result.1 err.old err.new) result.0 }
 {
-    ran(alloc, &sample::job(), &mut sample::inputs(), out, err)
+    let mut note = Vec::new(alloc);
+    ran(
+        alloc,
+        &sample::job(),
+        &mut sample::inputs(),
+        out,
+        err,
+        &mut note,
+    )
 }
 
 /// The whole program: its exit status, and the output sink. The questions are read for a session alone.

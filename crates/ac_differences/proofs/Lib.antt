@@ -1,1 +1,2 @@
+pub mod DoublesLemmas
 pub mod SharesLemmas

@@ -5,19 +5,23 @@ ghost use Rattle.ac_query.specs.Shown.Queries.{asked_of};
 ghost use Rattle.ac_differences.specs.Differing.{all_differences, applies};
 
 mod asks;
+mod below;
+mod doubles;
 mod fits;
+mod mixes;
 mod shares;
 mod steps;
 
 use self::asks::{
-    has_bare_group, has_forbidding_group, has_group_in_tree, has_two_suffixes, is_policy_none,
-    mixes_classes,
+    has_bare_group, has_contradiction, has_forbidding_group, has_two_suffixes, is_policy_none,
 };
+use self::below::fails_from_below;
+use self::mixes::{has_choice, ignores_a_tree, mixes_classes};
 use self::shares::{
     gives_no_resources, lends_beside_forbidden, lends_in_tree, meets_in_halves, shares_whole_group,
-    some_lends_by_its_root, some_lends_from_below,
+    some_lends_by_its_root,
 };
-use self::steps::takes_last_unit;
+use self::steps::computes_otherwise;
 use ac_cloud::Cloud;
 use ac_query::Query;
 
@@ -36,6 +40,8 @@ pub enum Difference {
     TreeWithoutResources,
     /// The service refuses two groups with suffixes and no policy.
     PolicyNeeded,
+    /// The service refuses a group that forbids what it requires.
+    ConflictingTraits,
     /// With `isolate` the service wants a provider of its own for a group without resources.
     IsolateWithoutResources,
     /// Two `member_of` are met by a provider and its root, each by another one.
@@ -46,7 +52,7 @@ pub enum Difference {
     MemberOfBelowRoot,
     /// In the group without a suffix, `in_tree` ends sharing.
     InTreeAndSharing,
-    /// In floating point a capacity may be a little less.
+    /// In floating point a capacity is another.
     FloatingPoint,
     /// The summaries leave out the tree of a provider that gives no resources.
     TreeOutsideSummaries,
@@ -64,6 +70,7 @@ pub fn all_differences() -> &'static [Difference]
         Difference::GroupThatOnlyForbids,
         Difference::TreeWithoutResources,
         Difference::PolicyNeeded,
+        Difference::ConflictingTraits,
         Difference::IsolateWithoutResources,
         Difference::TwoMemberOf,
         Difference::ForbiddenAggregateOfAnotherTree,
@@ -80,12 +87,15 @@ pub fn applies(cloud: &Cloud, query: &Query, difference: Difference) -> bool
     ensures { result ≡ applies (providers_of cloud.now) (asked_of query.now) difference }
 {
     match difference {
-        Difference::AmountsOfTwoGroups => !is_policy_none(query) && mixes_classes(query),
+        Difference::AmountsOfTwoGroups => {
+            !is_policy_none(query) && mixes_classes(cloud, query) && has_choice(cloud, query)
+        }
         Difference::SharedDiskForOneTree => shares_whole_group(cloud, query),
-        Difference::SharingProviderWithParent => some_lends_from_below(cloud, query),
+        Difference::SharingProviderWithParent => fails_from_below(cloud, query),
         Difference::GroupThatOnlyForbids => has_forbidding_group(query),
-        Difference::TreeWithoutResources => has_group_in_tree(query),
+        Difference::TreeWithoutResources => ignores_a_tree(cloud, query),
         Difference::PolicyNeeded => query.policy().is_none() && has_two_suffixes(query),
+        Difference::ConflictingTraits => has_contradiction(query),
         Difference::IsolateWithoutResources => {
             query.isolate() && has_two_suffixes(query) && has_bare_group(query)
         }
@@ -93,7 +103,7 @@ pub fn applies(cloud: &Cloud, query: &Query, difference: Difference) -> bool
         Difference::ForbiddenAggregateOfAnotherTree => lends_beside_forbidden(cloud, query),
         Difference::MemberOfBelowRoot => some_lends_by_its_root(cloud, query),
         Difference::InTreeAndSharing => lends_in_tree(cloud, query),
-        Difference::FloatingPoint => takes_last_unit(cloud, query),
+        Difference::FloatingPoint => computes_otherwise(cloud, query),
         Difference::TreeOutsideSummaries => gives_no_resources(cloud, query),
     }
 }

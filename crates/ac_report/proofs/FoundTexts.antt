@@ -4,6 +4,5 @@ pub mod SlotsWritten
 pub mod ItemsWritten
 pub mod FirstFound
 pub mod HostsWritten
-pub mod DifferencesWritten
 pub mod RowsWritten
 pub mod MarksWritten

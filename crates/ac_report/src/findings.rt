@@ -11,7 +11,9 @@ mod slot_details;
 mod why_rows;
 mod within;
 
-pub use explanation::{FoundWithout, Told, explanation_status, find_without, has_candidate};
+pub use explanation::{
+    FoundWithout, Told, differences_text, explanation_status, find_without, has_candidate,
+};
 pub use host_rows::{hosts_status, hosts_text};
 pub use host_sums::sums_text;
 pub use question::Question;

@@ -106,13 +106,13 @@ verdict_line all detail asked ids = verdict_on all detail asked (option_and_then
 abbrev pub explanation : List Provider → Says
 explanation all asked ids = written (explanation_text all asked (has_candidate all asked)) (explanation_status (has_candidate all asked))
 
--- which roots fit, and what the others lack, or how many of them lack what: of all roots, or of those of an aggregate alone
-abbrev pub hosts_told : Bool → Option ℕ → List Provider → Asked → List ℕ
-hosts_told false within all asked = hosts_text all asked within
-hosts_told true within all asked = sums_text all asked within
+-- which roots fit, and what the others lack, or how many of them lack what: of all roots, or of those of an aggregate
+abbrev pub hosts_told : Bool → List Provider → Asked → Option ℕ → List ℕ
+hosts_told false all asked within = hosts_text all asked within
+hosts_told true all asked within = sums_text all asked within
 
 abbrev pub host_rows : List Provider → Bool → Option ℕ → Says
-host_rows all sum within asked ids = written (hosts_told sum within all asked) (hosts_status all asked within)
+host_rows all sum within asked ids = written (hosts_told sum all asked within) (hosts_status all asked within)
 
 -- how far a query comes in the tree of a provider
 abbrev pub why_not : List Provider → Asked → ℕ → Outcome

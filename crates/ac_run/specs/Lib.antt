@@ -6,6 +6,7 @@ pub mod Details
 pub mod Wanted
 pub mod Outputs
 pub mod Answer
+pub mod Notes
 pub mod Run
 pub mod Stops
 pub mod Laws

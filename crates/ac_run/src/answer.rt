@@ -27,8 +27,8 @@ use ac_base::{NoMemory, Sink};
 use ac_find::{Lack, all_slots, broken_detail, find_lacks, tree_counts};
 use ac_query::{Query, Token};
 use ac_report::findings::{
-    Question, Told, explanation_status, find_without, has_candidate, hosts_status, hosts_text,
-    root_place, sums_text, why_at,
+    Question, Told, differences_text, explanation_status, find_without, has_candidate,
+    hosts_status, hosts_text, root_place, sums_text, why_at,
 };
 use ac_report::{PageFault, write_list, write_shown_page, write_tokens};
 use ac_rules::{Assignment, InCloud, Rule, Verdict, verify};
@@ -240,19 +240,21 @@ fn write_explanation<W: Sink>(
     let trees = tree_counts(alloc, cloud, query)?;
     let found = has_candidate(alloc, cloud, query, &trees, tries)?;
     let without = find_without(alloc, cloud, question, &trees, found, tries)?;
+    let differences = differences_text(alloc, cloud, query, found)?;
     let told = Told {
         cloud,
         query,
         slots: &slots,
         trees: &trees,
         found,
+        differences: &differences,
     };
     told.push_counts(out)?;
     told.push_reasons(out, &without)?;
     Ok(explanation_status(found))
 }
 
-// The rows of the roots, or how many of them lack what: of all roots, or of those of an aggregate alone.
+// The rows of the roots, or how many of them lack what: of all roots, or of those of an aggregate.
 fn hosts_told(
     alloc: Global,
     cloud: &Cloud,
@@ -265,7 +267,7 @@ fn hosts_told(
     requires fits { fits.now ≡ fitting (providers_of cloud.now) (asked_of query.now) }
     requires lacks { lacks.now ≡ lacks_of (providers_of cloud.now) (asked_of query.now) }
     ensures { IfOk result (λ text.
-        text.items ≡ hosts_told sum within (providers_of cloud.now) (asked_of query.now)) }
+        text.items ≡ hosts_told sum (providers_of cloud.now) (asked_of query.now) within) }
 {
     if sum {
         sums_text(alloc, cloud, query, within, lacks)
@@ -274,7 +276,7 @@ fn hosts_told(
     }
 }
 
-// Which roots fit, and what the others lack, or how many of them lack what: of all roots, or of those of an aggregate alone.
+// Which roots fit, and what the others lack, or how many of them lack what: of all roots, or of those of an aggregate.
 #[tactic(auto, using(crate::proofs::Delivering::refused))]
 fn write_hosts<W: Sink>(
     alloc: Global,

@@ -8,6 +8,7 @@ mod details;
 mod inputs;
 pub mod job;
 pub mod laws;
+mod notes;
 mod outputs;
 mod placements;
 mod ready;

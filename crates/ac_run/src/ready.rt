@@ -1,4 +1,4 @@
-//! What a run has before the first byte of output: the cloud that the tables state, and what is wanted of it.
+//! What a run has before the first byte of output: the cloud that the tables state, what is wanted of it, and what is to be told behind the answer.
 ghost use Rattle.std.specs.Prelude.{◌≡◌, ◌∷◌, [], Contains, IfOk, IfErr, OnOk, None};
 ghost use Rattle.std.specs.Option.{option_map};
 ghost use Rattle.ac_tables.specs.Source.{AreFew, tables_of};
@@ -7,6 +7,7 @@ ghost use Rattle.ac_cloud.specs.World.{World};
 ghost use Rattle.ac_cloud.specs.Cloud.CloudWorld.{providers_of, world_of};
 ghost use Rattle.ac_run.specs.Answer.{Outcome, answer, past_tables, remedy_in, with_detail};
 ghost use Rattle.ac_run.specs.Wanted.Given.{tables_in};
+ghost use Rattle.ac_run.specs.Notes.{noted};
 ghost use Rattle.ac_run.specs.Wanted.{IsSound, answer_to};
 ghost use Rattle.ac_run.specs.Feeds.Draining.{texts_shown};
 ghost use Rattle.ac_run.specs.Feeds.{Bytes, TellBytes, too_large};
@@ -18,17 +19,19 @@ ghost use Rattle.ac_run.specs.Run.{Explains, ExplainsTables, IsStated};
 use crate::details::{asked_detail, fault_detail, reading_detail};
 use crate::inputs::{Inputs, Texts, read_tables};
 use crate::job::{Job, Paths};
+use crate::notes::note_if_told;
 use crate::refusal::{Refusal, Refused, TablesRefusal};
 use crate::wanted::{Wanted, read_wanted};
-use ac_base::Feed;
+use ac_base::{Feed, NoMemory};
 use ac_tables::{Cloud, FromTables, Sources, TableFault};
 use std::alloc::Global;
 
-/// A cloud, and what is wanted of it.
+/// A cloud, what is wanted of it, and what is told behind the answer.
 #[derive(Drop)]
 pub struct Ready {
     pub cloud: Cloud,
     pub wanted: Wanted,
+    pub note: Vec<u8>,
 }
 
 // The text of a table that may not be there.
@@ -113,6 +116,8 @@ pub(crate) fn make_ready<R: Feed>(
         (remedy_in (task_of job.now) (world_of ready.cloud))
         (answer_to ready.wanted (world_of ready.cloud))) }
     ensures sound { IfOk result (λ ready. IsSound (providers_of ready.cloud) ready.wanted) }
+    ensures note { IfOk result (λ ready. (b : Bytes) → TellBytes R.remaining inputs.old b
+        → ready.note.items ≡ noted (task_of job.now) b) }
     ensures stops { IfOk result (λ ready. (b : Bytes) → TellBytes R.remaining inputs.old b
         → AnswerMayStop ready.wanted job.now.tries (providers_of ready.cloud)
         → TaskMayStop (task_of job.now) b) }
@@ -121,7 +126,14 @@ pub(crate) fn make_ready<R: Feed>(
 {
     let cloud = read_inputs(alloc, job.detail, inputs)?;
     match read_wanted(alloc, job, &cloud) {
-        Ok(wanted) => Ok(Ready { cloud, wanted }),
+        Ok(wanted) => match note_if_told(alloc, job.detail.is_some(), &cloud, &wanted) {
+            Ok(note) => Ok(Ready {
+                cloud,
+                wanted,
+                note,
+            }),
+            Err(NoMemory) => Err(Refused::of(alloc, Refusal::NoMemory)),
+        },
         Err(refusal) => {
             let text = asked_detail(alloc, job, &refusal);
             Err(Refused::new(alloc, Refusal::Asked(refusal), text))

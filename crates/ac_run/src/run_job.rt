@@ -5,6 +5,7 @@ ghost use Rattle.ac_base.specs.Devices.{Rises, TakesPart};
 ghost use Rattle.ac_tables.specs.declared.fault.Table.{Table};
 ghost use Rattle.ac_run.specs.Answer.{answer};
 ghost use Rattle.ac_run.specs.Feeds.{Bytes, FeedRose, TellBytes};
+ghost use Rattle.ac_run.specs.Notes.{noted};
 ghost use Rattle.ac_run.specs.Tasks.{task_of};
 ghost use Rattle.ac_run.specs.Lines.{memory_line, output_line, tries_line};
 ghost use Rattle.ac_run.specs.Refusals.{line_told, status_told};
@@ -22,16 +23,18 @@ use ac_base::{Feed, Sink};
 use ac_report::PageFault;
 use std::alloc::Global;
 
-// Reads the tables in their order, then the query, then the token, and writes the answer: its status, or why there is none.
+// Reads the tables in their order, then the query, then the token, and writes the answer: its status and what is to be told behind it, or why there is none.
 fn answer_job<R: Feed, W: Sink>(
     alloc: Global,
     job: &Job,
     inputs: &mut Inputs<R>,
     out: &mut W,
-) -> Result<u8, Refused>
-    ensures few { IfOk result (λ status. status ≤ 1) }
-    ensures ok { IfOk result (λ status. (b : Bytes) → TellBytes R.remaining inputs.old b
-        → IsWritten (answer (task_of job.now) b) (W.taken out.old) (W.taken out.new) status) }
+) -> Result<(u8, Vec<u8>), Refused>
+    ensures few { IfOk result (λ answered. answered.0 ≤ 1) }
+    ensures note { IfOk result (λ answered. (b : Bytes) → TellBytes R.remaining inputs.old b
+        → answered.1.items ≡ noted (task_of job.now) b) }
+    ensures ok { IfOk result (λ answered. (b : Bytes) → TellBytes R.remaining inputs.old b
+        → IsWritten (answer (task_of job.now) b) (W.taken out.old) (W.taken out.new) answered.0) }
     ensures fault { IfErr result (λ told. Ends R.remaining R.failures (task_of job.now).detail
         (answer (task_of job.now)) (TaskMayStop (task_of job.now)) inputs.old inputs.new
         (line_told told) (status_told told) (out.new ≡ out.old)
@@ -40,14 +43,15 @@ fn answer_job<R: Feed, W: Sink>(
 {
     let ready = make_ready(alloc, job, inputs)?;
     match write_answer(alloc, &ready.cloud, &ready.wanted, job.tries, out) {
-        Ok(status) => Ok(status),
+        Ok(status) => Ok((status, ready.note)),
         Err(PageFault::WriteFailed) => Err(Refused::of(alloc, Refusal::Output)),
         Err(PageFault::NoMemory) => Err(Refused::of(alloc, Refusal::NoMemory)),
         Err(PageFault::TooManyTries) => Err(Refused::of(alloc, Refusal::TooManyTries)),
     }
 }
 
-/// Runs a job: reads the tables in their order, then the query, then the token, and writes the answer. Answers the status.
+/// Runs a job: reads the tables in their order, then the query, then the token, and writes the answer. Answers the status, and in `note` what is to be told
+/// behind an answer, once it is handed on: where the service may answer otherwise.
 ///
 /// 0: written; 1: the verdict is no candidate, or there is none to explain; 3: a table or its reading refused; 4: the query refused; 5: the token
 /// refused; 6: the output failed; 7: want of memory; 8: the search made as many tries as it may. With 3 to 8 a line on the error sink says so.
@@ -57,6 +61,7 @@ pub fn run<R: Feed, W: Sink, E: Sink>(
     inputs: &mut Inputs<R>,
     out: &mut W,
     err: &mut E,
+    note: &mut Vec<u8>,
 ) -> u8
     // Where memory and tries suffice and no device fails: exactly the answer.
     ensures answered { result ≢ 7 → result ≢ 8
@@ -99,11 +104,16 @@ pub fn run<R: Feed, W: Sink, E: Sink>(
         → TakesPart (W.taken out.old) (W.taken out.new) (answer (task_of job.now) b).output }
     ensures status { Contains (0 ∷ 1 ∷ 3 ∷ 4 ∷ 5 ∷ 6 ∷ 7 ∷ 8 ∷ []) result }
     ensures silent { result ≤ 1 → err.new ≡ err.old }
+    ensures note { result ≤ 1 → (b : Bytes) → TellBytes R.remaining inputs.old b
+        → note.new.items ≡ noted (task_of job.now) b }
     ensures failures { W.failures out.old ≤ W.failures out.new }
     ensures err_failures { E.failures err.old ≤ E.failures err.new }
 {
     match answer_job(alloc, job, inputs, out) {
-        Ok(status) => status,
+        Ok((status, told)) => {
+            *note = told;
+            status
+        }
         Err(refused) => tell(err, &refused),
     }
 }

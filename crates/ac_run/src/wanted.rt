@@ -15,6 +15,7 @@ ghost use Rattle.ac_query.specs.Tokens.{ids_of, token_fault};
 ghost use Rattle.ac_run.specs.Answer.{answer_in, ids_given, past_token, said_by};
 ghost use Rattle.ac_run.specs.Wanted.Given.{token_refusal};
 ghost use Rattle.ac_run.specs.declared.refusal.AskRefusal.TheVariants as AskRefusal;
+ghost use Rattle.ac_run.specs.Notes.{note_to, noted_by};
 ghost use Rattle.ac_run.specs.Stops.{AnswerMayStop, SearchMayStop};
 ghost use Rattle.ac_run.specs.Tasks.{command_shown, task_of, token_in};
 ghost use Rattle.ac_run.specs.Wanted.{ExplainsHost, ExplainsQuery, ExplainsRest, ExplainsToken, ExplainsWanted, IsSound, answer_to, details_in};
@@ -126,6 +127,8 @@ fn wanted_of(alloc: Global, job: &Job, cloud: &Cloud, query: Query) -> Result<Wa
         ≡ past_token (said_by (command_shown job.now.command) (details_in (task_of job.now))
         (world_of cloud.now)) (token_in (command_shown job.now.command)) (asked_of query)) }
     ensures sound { IfOk result (IsSound (providers_of cloud.now)) }
+    ensures note { IfOk result (λ wanted. note_to wanted (world_of cloud.now)
+        ≡ noted_by (command_shown job.now.command) (world_of cloud.now) (asked_of query)) }
     ensures stops { IfOk result (λ wanted. AnswerMayStop wanted job.now.tries
         (providers_of cloud.now) → SearchMayStop (command_shown job.now.command) job.now.tries
         (providers_of cloud.now) (asked_of query)) }
@@ -162,6 +165,9 @@ pub fn read_wanted(alloc: Global, job: &Job, cloud: &Cloud) -> Result<Wanted, As
     ensures wanted { IfOk result (λ wanted. answer_in (task_of job.now) (world_of cloud.now)
         ≡ answer_to wanted (world_of cloud.now)) }
     ensures sound { IfOk result (IsSound (providers_of cloud.now)) }
+    ensures note { IfOk result (λ wanted. note_to wanted (world_of cloud.now)
+        ≡ noted_by (command_shown job.now.command) (world_of cloud.now)
+        (asked_by job.now.version (pairs_of job.now.query.now))) }
     ensures stops { IfOk result (λ wanted. AnswerMayStop wanted job.now.tries
         (providers_of cloud.now) → SearchMayStop (command_shown job.now.command) job.now.tries
         (providers_of cloud.now) (asked_by job.now.version (pairs_of job.now.query.now))) }
@@ -171,7 +177,7 @@ pub fn read_wanted(alloc: Global, job: &Job, cloud: &Cloud) -> Result<Wanted, As
         Command::Check => Ok(Wanted::Counts),
         _ => {
             let query = read_query(alloc, job.query, job.version)?;
-            wanted_of(alloc, job, cloud, query)
+            Ok(wanted_of(alloc, job, cloud, query)?)
         }
     }
 }

@@ -139,13 +139,14 @@ fn run_over(alloc: Global, rows: &Rows, job: &Job<'_>, turns: Turns) -> Result<L
     };
     let mut out = MemSink::new(vec![in alloc; 0u8; 2000]?, turns.out);
     let mut err = MemSink::new(vec![in alloc; 0u8; 1000]?, turns.err);
+    let mut note = Vec::new(alloc);
     let status = if turns.gathers {
         let mut gathering = Gathering::new(out, vec![in alloc; 0u8; 2000]?);
-        let status = run(alloc, job, &mut inputs, &mut gathering, &mut err);
+        let status = run(alloc, job, &mut inputs, &mut gathering, &mut err, &mut note);
         out = gathering.finish().1;
         status
     } else {
-        run(alloc, job, &mut inputs, &mut out, &mut err)
+        run(alloc, job, &mut inputs, &mut out, &mut err, &mut note)
     };
     Ok(Left {
         output: text_of(alloc, out.taken())?,

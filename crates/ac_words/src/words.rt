@@ -80,7 +80,8 @@ impl<'a> Words<'a> {
         self.tries
     }
 
-    /// Whether more is said: below the line of a fault what to do about it, and of a verdict of what a rule is broken.
+    /// Whether more is said: below the line of a fault what to do about it, of a verdict of what a rule is broken, and behind an answer where the service
+    /// may answer otherwise.
     pub fn detail(&self) -> bool
         ensures { result ≡ self.now.detail }
     {

@@ -1,16 +1,15 @@
 //! What a query alone says of the differences: its groups, their suffixes, and the policy.
-ghost use Rattle.std.specs.Prelude.{◌≡◌, ◌≤◌, ◌&&◌, length};
+ghost use Rattle.std.specs.Prelude.{◌≡◌, ◌≤◌, length, map};
 ghost use Rattle.std.specs.List.{list_all, list_any};
-ghost use Rattle.std.specs.Option.{is_none, is_some};
-ghost use Rattle.std.specs.Str.{bytes_eq};
-ghost use Rattle.ac_base.specs.Names.{class_bytes};
+ghost use Rattle.ac_base.specs.Names.{class_bytes, trait_bytes};
 ghost use Rattle.ac_query.specs.Asked.{slots_of};
-ghost use Rattle.ac_query.specs.Shown.Groups.{group_asked, suffix_of};
+ghost use Rattle.ac_query.specs.Shown.Groups.{any_of_shown, group_asked, need_entry};
 ghost use Rattle.ac_query.specs.Shown.Queries.{asked_of};
-ghost use Rattle.ac_differences.specs.Differing.{has_suffix_before, has_two_suffixes, have_common_class, is_bare, is_policy_none, mixes_classes, names_a_tree, only_forbids};
+ghost use Rattle.ac_query.specs.Texts.{has_text};
+ghost use Rattle.ac_differences.specs.Differing.{asks_for, contradicts_itself, forbids_a_list, forbids_a_required, has_suffix_before, has_two_suffixes, have_common_class, is_bare, is_policy_none, names_a_tree, only_forbids};
 
-use ac_base::ClassName;
-use ac_query::{Group, Query};
+use ac_base::{ClassName, TraitName};
+use ac_query::{AnyOf, Group, Need, Query};
 use ac_rules::slots::{count_slots, is_suffixed};
 
 // Whether a group asks for no resources.
@@ -37,8 +36,8 @@ fn only_forbids(group: &Group) -> bool
         && forbids_aggregates(group)
 }
 
-// Whether a group without resources names a tree, beside something that it asks for.
-fn names_a_tree(group: &Group) -> bool
+/// Whether a group without resources names a tree, beside something that it asks for.
+pub(crate) fn names_a_tree(group: &Group) -> bool
     ensures { result ≡ names_a_tree (group_asked group.now) }
 {
     is_bare(group) && group.in_tree().is_some() && !only_forbids(group)
@@ -58,61 +57,65 @@ pub(crate) fn has_forbidding_group(query: &Query) -> bool
     query.groups().iter().any(|group| only_forbids(group))
 }
 
-/// Whether some group without resources names a tree, beside something that it asks for.
-pub(crate) fn has_group_in_tree(query: &Query) -> bool
-    ensures { result ≡ list_any (λ g. names_a_tree g.1) (asked_of query.now).groups }
+// Whether a group forbids a trait.
+fn forbids_trait(group: &Group, name: &TraitName) -> bool
+    ensures { result ≡ has_text (group_asked group.now).forbidden (trait_bytes name.now) }
 {
-    query.groups().iter().any(|group| names_a_tree(group))
+    group.forbidden().binary_search(name).is_ok()
 }
 
-// Whether a group asks for a class.
-fn asks_for(group: &Group, class: &ClassName) -> bool
-    ensures { result ≡ list_any (λ need. bytes_eq need.0 (class_bytes class.now))
-        (group_asked group.now).needs }
+// Whether a group forbids each trait of a list.
+fn forbids_all(group: &Group, list: &AnyOf) -> bool
+    ensures { result
+        ≡ list_all (has_text (group_asked group.now).forbidden) (any_of_shown list.now) }
 {
-    group.needs().iter().any(|need| need.class() == class)
+    list.names().iter().all(|name| forbids_trait(group, name))
 }
 
-// Whether two groups ask for one class.
-fn have_common_class(group: &Group, other: &Group) -> bool
-    ensures { result ≡ have_common_class (group_asked group.now) (group_asked other.now) }
+// Whether a group forbids a trait that it requires.
+fn forbids_a_required(group: &Group) -> bool
+    ensures { result ≡ forbids_a_required (group_asked group.now) }
 {
     group
-        .needs()
+        .required()
         .iter()
-        .any(|need| asks_for(other, need.class()))
+        .any(|name| forbids_trait(group, name))
 }
 
-// Whether a group has a suffix, and asks for a class that another one asks for.
-fn is_mixed(group: &Group, other: &Group) -> bool
-    ensures { result ≡ (is_some (suffix_of other.now)
-        && have_common_class (group_asked group.now) (group_asked other.now)) }
+// Whether a group forbids all traits of a list of which it asks one.
+fn forbids_a_list(group: &Group) -> bool
+    ensures { result ≡ forbids_a_list (group_asked group.now) }
 {
-    other.suffix().is_some() && have_common_class(group, other)
+    group.any_of().iter().any(|list| forbids_all(group, list))
 }
 
-// Whether some group with a suffix asks for a class that a group asks for.
-fn is_mixed_with_some(query: &Query, group: &Group) -> bool
-    ensures { result ≡ list_any (λ h. is_some h.0 && have_common_class (group_asked group.now) h.1)
-        (asked_of query.now).groups }
+// Whether a group forbids what it requires.
+fn contradicts_itself(group: &Group) -> bool
+    ensures { result ≡ contradicts_itself (group_asked group.now) }
 {
-    query.groups().iter().any(|other| is_mixed(group, other))
+    forbids_a_required(group) || forbids_a_list(group)
 }
 
-// Whether a group has no suffix, and some group with a suffix asks for a class that it asks for.
-fn mixes(query: &Query, group: &Group) -> bool
-    ensures { result ≡ (is_none (suffix_of group.now)
-        && list_any (λ h. is_some h.0 && have_common_class (group_asked group.now) h.1)
-        (asked_of query.now).groups) }
+/// Whether some group forbids what it requires.
+pub(crate) fn has_contradiction(query: &Query) -> bool
+    ensures { result ≡ list_any (λ g. contradicts_itself g.1) (asked_of query.now).groups }
 {
-    group.suffix().is_none() && is_mixed_with_some(query, group)
+    query.groups().iter().any(|group| contradicts_itself(group))
 }
 
-/// Whether the group without a suffix and one with a suffix ask for one class.
-pub(crate) fn mixes_classes(query: &Query) -> bool
-    ensures { result ≡ mixes_classes (asked_of query.now) }
+/// Whether one of some needs is of a class.
+pub(crate) fn asks_for(needs: &[Need], class: &ClassName) -> bool
+    ensures { result ≡ asks_for (map need_entry needs.now) (class_bytes class.now) }
 {
-    query.groups().iter().any(|group| mixes(query, group))
+    needs.iter().any(|need| need.class() == class)
+}
+
+/// Whether two of some needs each are of one class.
+pub(crate) fn have_common_class(needs: &[Need], other: &[Need]) -> bool
+    ensures { result
+        ≡ have_common_class (map need_entry needs.now) (map need_entry other.now) }
+{
+    needs.iter().any(|need| asks_for(other, need.class()))
 }
 
 /// Whether the policy is `none`.

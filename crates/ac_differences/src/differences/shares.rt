@@ -9,20 +9,18 @@ ghost use Rattle.ac_query.specs.Asked.{slots_of};
 ghost use Rattle.ac_query.specs.Shown.Groups.{rule_shown};
 ghost use Rattle.ac_query.specs.Shown.Queries.{asked_of};
 ghost use Rattle.ac_rules.specs.Placed.{slot_at};
-ghost use Rattle.ac_differences.specs.Differing.{fits_with_its_root, forbids_a_root, gives_no_resources, has_root_in, has_to_lend, is_bare_slot, is_lent, is_suffixed, lends_beside_forbidden, lends_by_its_root, lends_from_below, lends_in_tree, lends_outside, may_share, meets_in_halves, shares_whole_group, slot_places, some_provider, some_sharing};
+ghost use Rattle.ac_differences.specs.Differing.{fits_with_its_root, forbids_a_root, gives_no_resources, has_root_in, has_to_lend, is_bare_slot, is_lent, is_suffixed, lends_beside_forbidden, lends_by_its_root, lends_in_tree, lends_outside, may_share, meets_in_halves, shares_whole_group, slot_places, some_provider, some_sharing};
 
 use super::asks::has_suffix_before;
-use super::fits::{
-    fits_with_its_root, has_to_lend, is_lent, lends_by_its_root, lends_from_below, lends_outside,
-};
+use super::fits::{fits_with_its_root, has_to_lend, is_lent, lends_by_its_root, lends_outside};
 use ac_cloud::{Cloud, Provider};
 use ac_query::{AggregateRule, Query};
 use ac_rules::Placed;
 use ac_rules::rules::own::is_in_any;
 use ac_rules::slots::{count_slots, group_at, is_suffixed, needs_at};
 
-// Whether a slot asks for no resources.
-fn is_bare_slot(query: &Query, s: usize) -> bool
+/// Whether a slot asks for no resources.
+pub(crate) fn is_bare_slot(query: &Query, s: usize) -> bool
     requires { s < length (slots_of (asked_of query.now)) }
     ensures { result ≡ is_bare_slot (asked_of query.now) s }
 {
@@ -37,8 +35,8 @@ fn names_a_tree(query: &Query, s: usize) -> bool
     group_at(query, s).in_tree().is_some()
 }
 
-// Whether a slot is one that the service may fill from another tree: without a suffix, and without `in_tree`.
-fn may_share(query: &Query, s: usize) -> bool
+/// Whether a slot is one that the service may fill from another tree: without a suffix, and without `in_tree`.
+pub(crate) fn may_share(query: &Query, s: usize) -> bool
     requires { s < length (slots_of (asked_of query.now)) }
     ensures { result ≡ may_share (asked_of query.now) s }
 {
@@ -85,26 +83,7 @@ pub(crate) fn shares_whole_group(cloud: &Cloud, query: &Query) -> bool
         && are_left_to_share(cloud, query)
 }
 
-// Whether some sharing provider below a parent meets the rules of a slot.
-#[tactic(auto, using(ac_cloud::proofs::Ranges::range_more, ac_cloud::proofs::Ranges::range_end))]
-fn is_lent_from_below(cloud: &Cloud, query: &Query, s: usize) -> bool
-    requires { s < length (slots_of (asked_of query.now)) }
-    ensures { result ≡ some_provider (providers_of cloud.now) (asked_of query.now) s
-        (lends_from_below (providers_of cloud.now)) }
-{
-    (0..cloud.len()).any(|ix| lends_from_below(&Placed::new(cloud, query, s, ix)))
-}
-
-/// Whether some sharing provider below a parent meets the rules of a slot that the service may fill from another tree.
-#[tactic(auto, using(ac_cloud::proofs::Ranges::range_more, ac_cloud::proofs::Ranges::range_end))]
-pub(crate) fn some_lends_from_below(cloud: &Cloud, query: &Query) -> bool
-    ensures { result ≡ some_sharing (providers_of cloud.now) (asked_of query.now)
-        (lends_from_below (providers_of cloud.now)) }
-{
-    (0..count_slots(query)).any(|s| may_share(query, s) && is_lent_from_below(cloud, query, s))
-}
-
-// Whether some sharing provider meets the rules of a slot, but those on aggregates only by its root.
+// Whether some sharing provider serves a slot, but meets the rules on aggregates only by its root.
 #[tactic(auto, using(ac_cloud::proofs::Ranges::range_more, ac_cloud::proofs::Ranges::range_end))]
 fn is_lent_by_a_root(cloud: &Cloud, query: &Query, s: usize) -> bool
     requires { s < length (slots_of (asked_of query.now)) }
@@ -114,8 +93,8 @@ fn is_lent_by_a_root(cloud: &Cloud, query: &Query, s: usize) -> bool
     (0..cloud.len()).any(|ix| lends_by_its_root(&Placed::new(cloud, query, s, ix)))
 }
 
-/// Whether some sharing provider meets the rules of a slot that the service may fill from another tree, but those on aggregates
-/// only by its root.
+/// Whether some sharing provider serves a slot that the service may fill from another tree, but meets the rules on aggregates only by
+/// its root.
 #[tactic(auto, using(ac_cloud::proofs::Ranges::range_more, ac_cloud::proofs::Ranges::range_end))]
 pub(crate) fn some_lends_by_its_root(cloud: &Cloud, query: &Query) -> bool
     ensures { result ≡ some_sharing (providers_of cloud.now) (asked_of query.now)
@@ -222,7 +201,7 @@ pub(crate) fn lends_beside_forbidden(cloud: &Cloud, query: &Query) -> bool
         && is_lent_beside_forbidden(cloud, query, s))
 }
 
-// Whether a slot has no suffix, and its group names a tree of which some sharing provider meets its rules.
+// Whether a slot has no suffix, and its group names a tree of which some sharing provider serves the slot.
 fn is_lent_in_tree(cloud: &Cloud, query: &Query, s: usize) -> bool
     requires { s < length (slots_of (asked_of query.now)) }
     ensures { result ≡ (not (is_suffixed (asked_of query.now) s)
@@ -232,7 +211,7 @@ fn is_lent_in_tree(cloud: &Cloud, query: &Query, s: usize) -> bool
     !is_suffixed(query, s) && names_a_tree(query, s) && is_lent(cloud, query, s)
 }
 
-/// Whether some slot has no suffix, and its group names a tree of which some sharing provider meets its rules.
+/// Whether some slot has no suffix, and its group names a tree of which some sharing provider serves the slot.
 #[tactic(auto, using(ac_cloud::proofs::Ranges::range_more, ac_cloud::proofs::Ranges::range_end), unfolding(crate::specs::Differing::lends_in_tree))]
 pub(crate) fn lends_in_tree(cloud: &Cloud, query: &Query) -> bool
     ensures { result ≡ lends_in_tree (providers_of cloud.now) (asked_of query.now) }
@@ -249,7 +228,7 @@ fn has_bare_slot(query: &Query) -> bool
     (0..count_slots(query)).any(|s| is_bare_slot(query, s))
 }
 
-// Whether some sharing provider meets the rules of a slot that asks for no resources.
+// Whether some sharing provider serves a slot that asks for no resources.
 #[tactic(auto, using(ac_cloud::proofs::Ranges::range_more, ac_cloud::proofs::Ranges::range_end))]
 fn is_bare_lent(cloud: &Cloud, query: &Query) -> bool
     ensures { result ≡ list_any (λ s. is_bare_slot (asked_of query.now) s
@@ -259,7 +238,7 @@ fn is_bare_lent(cloud: &Cloud, query: &Query) -> bool
     (0..count_slots(query)).any(|s| is_bare_slot(query, s) && is_lent(cloud, query, s))
 }
 
-// Whether for each slot with resources some sharing provider meets its rules.
+// Whether some sharing provider serves each slot with resources.
 #[tactic(auto, using(ac_cloud::proofs::Ranges::range_more, ac_cloud::proofs::Ranges::range_end))]
 fn are_others_lent(cloud: &Cloud, query: &Query) -> bool
     ensures { result ≡ list_all (λ s. is_bare_slot (asked_of query.now) s
@@ -269,7 +248,7 @@ fn are_others_lent(cloud: &Cloud, query: &Query) -> bool
     (0..count_slots(query)).all(|s| is_bare_slot(query, s) || is_lent(cloud, query, s))
 }
 
-/// Whether there is a group without resources, and some sharing provider meets its rules, or one does for each slot with resources.
+/// Whether there is a group without resources, and some sharing provider serves it, or one serves each slot with resources.
 #[tactic(auto, unfolding(crate::specs::Differing::gives_no_resources))]
 pub(crate) fn gives_no_resources(cloud: &Cloud, query: &Query) -> bool
     ensures { result ≡ gives_no_resources (providers_of cloud.now) (asked_of query.now) }

@@ -1,5 +1,5 @@
-//! Capacities that are less in floating point, where a query may take their last unit.
-ghost use Rattle.std.specs.Prelude.{◌≡◌, ◌-◌, ◌<◌, ◌&&◌, length, map, nat_le};
+//! Capacities that are others in floating point, and whether a query comes to them.
+ghost use Rattle.std.specs.Prelude.{◌≡◌, ◌-◌, ◌<◌, length, map};
 ghost use Rattle.std.specs.List.{list_any};
 ghost use Rattle.ac_base.specs.Names.{class_bytes};
 ghost use Rattle.ac_cloud.specs.Cloud.CloudWorld.{providers_of};
@@ -8,22 +8,14 @@ ghost use Rattle.ac_query.specs.Shown.Groups.{need_entry};
 ghost use Rattle.ac_query.specs.Shown.Queries.{asked_of};
 ghost use Rattle.ac_rules.specs.Shown.Assignments.{placed_of};
 ghost use Rattle.ac_rules.specs.Together.{amount_of};
-ghost use Rattle.ac_differences.specs.Differing.{gives_last, may_fall_short, some_provider, takes_last, takes_last_unit, total_of};
+ghost use Rattle.ac_differences.specs.Differing.{computes_otherwise, gives_otherwise, needs_otherwise, some_provider, takes_last, total_of};
 
+use super::doubles::capacity_by;
 use ac_base::{ClassName, Inventory};
 use ac_cloud::Cloud;
 use ac_query::{Need, Query};
 use ac_rules::Placed;
 use ac_rules::slots::{count_slots, needs_at};
-
-// Whether the capacity of an inventory is whole before it is rounded, and binary fractions don't hold its ratio.
-fn may_fall_short(inventory: &Inventory) -> bool
-    ensures { result ≡ may_fall_short inventory.now }
-{
-    let free = u128::from(inventory.total().saturating_sub(inventory.reserved()));
-    let millionths = u128::from(inventory.ratio().millionths());
-    millionths % 15_625 != 0 && free * millionths % 1_000_000 == 0
-}
 
 // What is left of an amount after what needs ask of a class; 0 where they ask for more.
 fn without_needs(needs: &[Need], class: &ClassName, amount: u64) -> u64
@@ -49,64 +41,66 @@ fn without_all(query: &Query, class: &ClassName, amount: u64) -> u64
     left
 }
 
-// Whether what is left of a class suffices for a need, and all slots together ask for all of it.
-fn takes_all(query: &Query, need: &Need, left: u64) -> bool
-    ensures { result ≡ (nat_le (need_entry need.now).1 left
-        && nat_le left (total_of (slots_of (asked_of query.now)) (need_entry need.now).0)) }
+// Whether an amount has room in an inventory by the rules, and all slots together ask for more than is left by a ratio in single precision.
+fn takes_last(query: &Query, need: &Need, inventory: &Inventory, used: u64) -> bool
+    ensures { result ≡ takes_last inventory.now used (need_entry need.now).1
+        (total_of (slots_of (asked_of query.now)) (need_entry need.now).0) }
 {
-    u64::from(need.amount()) <= left && without_all(query, need.class(), left) == 0
+    let single = capacity_by(24, inventory);
+    let exact = inventory.capacity();
+    single < exact
+        && u64::from(need.amount()) <= exact.saturating_sub(used)
+        && without_all(query, need.class(), single.saturating_sub(used) + 1) == 0
 }
 
-// Whether a provider's inventory may fall short, what is left of it suffices for a need, and all slots together ask for all of it.
-fn takes_last(placed: &Placed, need: &Need) -> bool
-    ensures { result ≡ takes_last (providers_of placed.now.cloud.now)
+// Whether the inventory that a need takes of a provider has another capacity in double precision, or takes the last of one that falls short in
+// single precision.
+fn needs_otherwise(placed: &Placed, need: &Need) -> bool
+    ensures { result ≡ needs_otherwise (providers_of placed.now.cloud.now)
         (asked_of placed.now.query.now) placed.now.provider (need_entry need.now) }
 {
     let provider = placed.its_provider();
     let Some(inventory) = provider.inventory(need.class()) else {
         return false;
     };
-    if !may_fall_short(inventory) {
-        return false;
-    }
-    let used = provider.used(need.class());
-    takes_all(
-        placed.query,
-        need,
-        inventory.capacity().saturating_sub(used),
-    )
+    capacity_by(53, inventory) != inventory.capacity()
+        || takes_last(placed.query, need, inventory, provider.used(need.class()))
 }
 
-// Whether a slot has a need by which it may take the last unit of its provider's inventory.
-fn takes_last_of(placed: &Placed) -> bool
-    ensures { result ≡ list_any (takes_last (providers_of placed.now.cloud.now)
+// Whether that holds of one of a slot's needs.
+fn has_need_otherwise(placed: &Placed) -> bool
+    ensures { result ≡ list_any (needs_otherwise (providers_of placed.now.cloud.now)
         (asked_of placed.now.query.now) placed.now.provider) (placed_of placed.now).slot.needs }
 {
-    placed.needs().iter().any(|need| takes_last(placed, need))
+    placed
+        .needs()
+        .iter()
+        .any(|need| needs_otherwise(placed, need))
 }
 
-// Whether a provider meets the rules of its slot, and may give the last unit of one of its classes.
-fn gives_last(placed: &Placed) -> bool
-    ensures { result ≡ gives_last (providers_of placed.now.cloud.now)
+// Whether a provider meets the rules of its slot, and that holds of one of the slot's needs.
+fn gives_otherwise(placed: &Placed) -> bool
+    ensures { result ≡ gives_otherwise (providers_of placed.now.cloud.now)
         (asked_of placed.now.query.now) (placed_of placed.now) }
 {
-    takes_last_of(placed) && placed.fits()
+    has_need_otherwise(placed) && placed.fits()
 }
 
-// Whether some provider meets the rules of a slot, and may give the last unit of one of its classes.
+// Whether there is such a provider for a slot.
 #[tactic(auto, using(ac_cloud::proofs::Ranges::range_more, ac_cloud::proofs::Ranges::range_end))]
-fn some_gives_last(cloud: &Cloud, query: &Query, s: usize) -> bool
+fn some_gives_otherwise(cloud: &Cloud, query: &Query, s: usize) -> bool
     requires { s < length (slots_of (asked_of query.now)) }
     ensures { result ≡ some_provider (providers_of cloud.now) (asked_of query.now) s
-        (gives_last (providers_of cloud.now) (asked_of query.now)) }
+        (gives_otherwise (providers_of cloud.now) (asked_of query.now)) }
 {
-    (0..cloud.len()).any(|ix| gives_last(&Placed::new(cloud, query, s, ix)))
+    (0..cloud.len()).any(|ix| gives_otherwise(&Placed::new(cloud, query, s, ix)))
 }
 
-/// Whether of some slot some provider meets the rules, and may give the last unit of one of its classes.
-#[tactic(auto, using(ac_cloud::proofs::Ranges::range_more, ac_cloud::proofs::Ranges::range_end), unfolding(crate::specs::Differing::takes_last_unit))]
-pub(crate) fn takes_last_unit(cloud: &Cloud, query: &Query) -> bool
-    ensures { result ≡ takes_last_unit (providers_of cloud.now) (asked_of query.now) }
+/// Whether for some slot some provider meets the rules, and has an inventory for one of the slot's needs whose capacity is another in floating
+/// point, or falls short of what is asked there.
+#[tactic(auto, using(ac_cloud::proofs::Ranges::range_more, ac_cloud::proofs::Ranges::range_end), unfolding(crate::specs::Differing::computes_otherwise))]
+pub(crate) fn computes_otherwise(cloud: &Cloud, query: &Query) -> bool
+    ensures { result ≡ computes_otherwise (providers_of cloud.now) (asked_of query.now) }
 {
-    (0..count_slots(query)).any(|s| some_gives_last(cloud, query, s))
+    (0..count_slots(query)).any(|s| some_gives_otherwise(cloud, query, s))
 }

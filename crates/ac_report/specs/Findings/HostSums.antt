@@ -43,9 +43,9 @@ lack_number (Some lack.RequiredTraits) = 2
 lack_number (Some lack.Together) = 3
 lack_number (Some (lack.Slot slot test)) = 6 * slot + stage_number test
 
--- what each root lacks of those that are told
-abbrev pub lacks_within : List Provider → Asked → Option ℕ → List (Option Lack)
-lacks_within all asked within = map (lack_at all asked) (roots_within all within)
+-- what each root lacks, of all or of those of an aggregate
+abbrev pub lacks_of_roots : List Provider → Asked → Option ℕ → List (Option Lack)
+lacks_of_roots all asked within = map (lack_at all asked) (roots_within all within)
 
 -- how many of these are this
 abbrev pub count_lacks : List (Option Lack) → Option Lack → ℕ
@@ -79,4 +79,4 @@ abbrev pub sum_rows : Asked → List (Option Lack) → List Lack → List (List 
 sum_rows asked found kinds = (sum_columns ∷ fits_row (count_lacks found None) ∷ []) ++ rows_falling asked (counted found kinds) (length found)
 
 unfoldable pub sums_text : List Provider → Asked → Option ℕ → List ℕ
-sums_text all asked within = flat_map (row_text default_writer) (sum_rows asked (lacks_within all asked within) (possible_lacks (length (slots_of asked))))
+sums_text all asked within = flat_map (row_text default_writer) (sum_rows asked (lacks_of_roots all asked within) (possible_lacks (length (slots_of asked))))

@@ -1,4 +1,4 @@
-//! How far a query comes, told without memory: a line for each slot, one for the trees, what nobody has, whether there is a candidate; where there is
+//! How far a query comes, told without memory once it is found: a line for each slot, one for the trees, what nobody has, whether there is a candidate; where there is
 //! none, whether there would be one without one of the things that are asked of several slots together, and why; and where the service may answer otherwise.
 
 mod because;
@@ -25,7 +25,7 @@ ghost use Rattle.ac_search.specs.Shown.Walk.{MayStop};
 ghost use Rattle.ac_search.specs.declared.fault.SearchFault.TheVariants as fault;
 
 use self::because::push_because;
-use self::differences::push_differences;
+pub use self::differences::differences_text;
 use self::nobody::push_missing;
 use self::without::push_without;
 pub use self::without::{FoundWithout, find_without};
@@ -297,8 +297,11 @@ pub struct Told<'a> {
     pub slots: &'a [SlotTold],
     pub trees: &'a TreeCounts,
     pub found: bool,
+    /// Where the service may answer otherwise.
+    pub differences: &'a [u8],
     ghost slots_told: { map slot_shown slots.now ≡ map (slot_told (providers_of cloud.now)) (slots_of (asked_of query.now)) },
     ghost trees_told: { trees_shown trees.now ≡ tree_counts (providers_of cloud.now) (asked_of query.now) },
+    ghost differences_told: { differences.now ≡ differs_lines (providers_of cloud.now) (asked_of query.now) found },
 }
 
 impl<'a> Told<'a> {
@@ -334,7 +337,7 @@ impl<'a> Told<'a> {
     {
         push_without(out, self.query, without)?;
         self.push_because(out)?;
-        push_differences(out, self.cloud, self.query, self.found)
+        push_all(out, self.differences)
     }
 
     /// Pushes the lines of the slots, that of the trees by their counts, what nobody has, and whether a candidate was found.

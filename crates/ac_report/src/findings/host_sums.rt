@@ -95,7 +95,7 @@ fn possible_lacks(alloc: Global, slots: usize) -> Result<Vec<Lack>, NoMemory>
 }
 
 // What each of some roots lacks.
-fn lacks_of_roots(
+fn lacks_at(
     alloc: Global,
     cloud: &Cloud,
     query: &Query,
@@ -222,7 +222,7 @@ pub fn sums_text(
         text.items ≡ sums_text (providers_of cloud.now) (asked_of query.now) within) }
 {
     let roots = roots_within(alloc, cloud, within)?;
-    let found = lacks_of_roots(alloc, cloud, query, &roots, lacks)?;
+    let found = lacks_at(alloc, cloud, query, &roots, lacks)?;
     let kinds = possible_lacks(alloc, count_slots(query))?;
     let sums = counted(alloc, &found, &kinds)?;
     let mut rows = begin_rows(alloc, &[b"hosts", b"slot", b"lacks", b"asks"])?;

@@ -11,7 +11,7 @@ use ac_base::NoMemory;
 use ac_cloud::{Cloud, Provider};
 use std::alloc::Global;
 
-// Whether a provider is a member of an aggregate.
+// Whether a provider is a member of an aggregate, which is named by its UUID as a number.
 fn is_member(provider: &Provider, aggregate: u128) -> bool
     ensures { result ≡ is_member (provider_of provider.now) aggregate }
 {

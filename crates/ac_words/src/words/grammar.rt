@@ -102,7 +102,8 @@ fn add_common<'a>(alloc: Global, command: Command<'a>) -> Result<Command<'a>, Al
     command.arg(flag(
         alloc,
         "detail",
-        "Says below the line of a fault what to do about it; `verify` then also says of what a rule is broken",
+        "Says below the line of a fault what to do about it; `verify` then also says of what a rule is broken, \
+         and `tokens`, `fill` and `hosts` where the service may answer otherwise",
     ))
 }
 

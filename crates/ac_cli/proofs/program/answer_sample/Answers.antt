@@ -12,5 +12,5 @@ returns g c =
       from = c.inputs.result;
       to = c.ran.new.inputs;
       tells = c.inputs.ensures;
-      ran = of_task _ (λ (feed : FromRead (Bor (List ℕ))). feed.failures) c.inputs.result c.ran.new.inputs _ _ (task_of c.job.result) sample_task c.job.ensures c.ran.ensures;
+      ran = of_task _ (λ (feed : FromRead (Bor (List ℕ))). feed.failures) c.inputs.result c.ran.new.inputs _ _ (task_of c.job.result) sample_task c.job.ensures c.ran.ensures.ran;
     }

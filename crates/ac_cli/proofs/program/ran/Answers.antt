@@ -5,12 +5,12 @@ use Rattle.ac_base.specs.Gathered.Below.{sink_below}
 use Rattle.ac_cli.proofs.RanTasks.{none_ran}
 use Rattle.ac_cli.proofs.program.ran.Goals as goal
 
-pub returns-in_default : goal.returns-in_default
-returns-in_default g c =
+pub returns-in_default-clause-ran : goal.returns-in_default-clause-ran
+returns-in_default-clause-ran g c =
     none_ran g.F.Feed.remaining c.args.inputs.now _ _ (c.tell.ensures.status ∙ c.of.ensures.status) (rw (← c.of.ensures.line) c.tell.ensures.line) refl c.tell.ensures.failures _ _ _
 
-pub returns-then-status-gt1 : goal.returns-then-status-gt1
-returns-then-status-gt1 g c =
+pub returns-then-status-gt1-clause-ran : goal.returns-then-status-gt1-clause-ran
+returns-then-status-gt1-clause-ran g c =
     let said = c.run-status.ensures in
     record {
       written = λ small. absurd (omega arith);
@@ -27,8 +27,8 @@ returns-then-status-gt1 g c =
       failures = said.err_failures;
     }
 
-pub returns-then-status-eq8 : goal.returns-then-status-eq8
-returns-then-status-eq8 g c =
+pub returns-then-status-eq8-clause-ran : goal.returns-then-status-eq8-clause-ran
+returns-then-status-eq8-clause-ran g c =
     let said = c.run-status.ensures in
     record {
       written = λ small. absurd (omega arith);
@@ -45,8 +45,8 @@ returns-then-status-eq8 g c =
       failures = said.err_failures;
     }
 
-pub returns-in-Ok-default : goal.returns-in-Ok-default
-returns-in-Ok-default g c =
+pub returns-in-Ok-default-clause-ran : goal.returns-in-Ok-default-clause-ran
+returns-in-Ok-default-clause-ran g c =
     let said = c.run-status.ensures in
     record {
       written = λ small b tell. let answered = said.written small b tell in record {
@@ -68,8 +68,8 @@ returns-in-Ok-default g c =
       failures = said.err_failures;
     }
 
-pub returns-in-Err-default : goal.returns-in-Err-default
-returns-in-Err-default g c =
+pub returns-in-Err-default-clause-ran : goal.returns-in-Err-default-clause-ran
+returns-in-Err-default-clause-ran g c =
     let said = c.run-status.ensures in
     let six = c.tell-in-Err-default.ensures.status ∙ c.of-in-Err-default.ensures.status in
     record {

@@ -6,6 +6,8 @@ returns g c =
       err = g.E.Sink.taken c.ran-status.new.err;
       count = g.E.Sink.failures c.ran-status.new.err;
       later = c.tell_text.ensures.failures;
-      ran = c.ran-status.ensures;
-      note = rw (← c.note_of.ensures) (record { part = c.tell_text.ensures.part; whole = c.tell_text.ensures.whole });
+      ran = c.ran-status.ensures.ran;
+      said = c.ran-status.new.note.items;
+      tied = c.ran-status.ensures.note;
+      note = rw (← c.note_behind.ensures) (record { part = c.tell_text.ensures.part; whole = c.tell_text.ensures.whole });
     }

@@ -1,10 +1,18 @@
-use Rattle.std.proofs.Common.{◌∙◌, ap}
+use Rattle.std.proofs.Common.{◌≡◌, ◌∙◌, ℕ, Bool, List, [], Option, None, Some, ap, ap₂, if◌then◌else◌, is_some, option_map, refl}
 use Rattle.ac_base.proofs.Small.{handed_on}
 use Rattle.ac_cloud.specs.Cloud.CloudWorld.{world_of}
 use Rattle.ac_run.specs.Answer.{answer_within, remedy_in, with_detail}
+use Rattle.ac_cloud.specs.World.{World}
+use Rattle.ac_query.specs.Laws.Gathered.{asked_by}
+use Rattle.ac_query.specs.Pairs.{pairs_of}
+use Rattle.ac_run.specs.Notes.{noted_by}
 use Rattle.ac_run.specs.Tasks.{task_of}
 use Rattle.ac_run.proofs.Attempted.{as_answer, asked_told, in_answer}
 use Rattle.ac_run.proofs.ready.make_ready.Goals as goal
+
+some_kept : {X Y : Type 0} (f : X → Y) (o : Option X) → is_some o ≡ is_some (option_map f o)
+some_kept f None = refl
+some_kept f (Some x) = refl
 
 pub returns-in_err-cloud-clause-fault : goal.returns-in_err-cloud-clause-fault
 returns-in_err-cloud-clause-fault g c =
@@ -12,8 +20,8 @@ returns-in_err-cloud-clause-fault g c =
     handed_on c.from_residual.result _ _ c.from_residual.ensures.1
     (as_answer task g.R.Feed.remaining g.R.Feed.failures c.args.inputs.now c.read_inputs.new.inputs _ _ (c.in_err-cloud.ensures.fault (answer_within task)))
 
-pub returns-in-Ok-clause-answer : goal.returns-in-Ok-clause-answer
-returns-in-Ok-clause-answer g c = λ b tell.
+pub returns-in-Ok-note_if_told-clause-answer : goal.returns-in-Ok-note_if_told-clause-answer
+returns-in-Ok-note_if_told-clause-answer g c = λ b tell.
     let task = task_of c.args.job.now in
     let world = world_of c.in_ok-cloud.cloud in
     in_answer task world g.R.Feed.remaining g.R.Feed.failures c.args.inputs.now c.read_inputs.new.inputs c.in_ok-cloud.ensures.stated b tell
@@ -23,3 +31,9 @@ pub returns-in-Err-clause-fault : goal.returns-in-Err-clause-fault
 returns-in-Err-clause-fault g c =
     asked_told (task_of c.args.job.now) (world_of c.in_ok-cloud.cloud) g.R.Feed.remaining g.R.Feed.failures c.args.inputs.now c.read_inputs.new.inputs c.in_ok-cloud.ensures.stated
     c.in-Err.refusal c.asked_detail-text.result c.new.result c.in-Err.ensures.fault c.asked_detail-text.ensures.text c.new.ensures
+
+pub returns-in-Ok-note_if_told-clause-note : goal.returns-in-Ok-note_if_told-clause-note
+returns-in-Ok-note_if_told-clause-note g c = λ b tell.
+    let task = task_of c.args.job.now in
+    let noted = c.in-Ok.ensures.note ∙ ap (λ (w : World). noted_by task.command w (asked_by task.version (pairs_of task.query))) (c.in_ok-cloud.ensures.stated b tell).states in
+    c.in-Ok-note_if_told.ensures ∙ ap₂ (λ (told : Bool) (note : List ℕ). if told then note else []) (c.is_some.ensures ∙ some_kept _ _) noted

@@ -6,17 +6,17 @@ use Rattle.ac_query.specs.Asked.{slots_of}
 use Rattle.ac_query.specs.Shown.Queries.{asked_of}
 use Rattle.ac_find.specs.Lacking.{lack_at}
 use Rattle.ac_find.specs.declared.lacks.Lack.{Lack}
-use Rattle.ac_report.specs.Findings.HostSums.{count_lacks, counted, fits_row, lacks_within, possible_lacks, rows_falling, sum_columns, sum_rows, sums_text}
+use Rattle.ac_report.specs.Findings.HostSums.{count_lacks, counted, fits_row, lacks_of_roots, possible_lacks, rows_falling, sum_columns, sum_rows, sums_text}
 use Rattle.ac_report.proofs.findings.host_sums.sums_text.Goals as goal
 
 pub returns : goal.returns
 unfolding sums_text
 returns c =
     let asked = asked_of c.args.query.now in
-    let found = lacks_within (providers_of c.args.cloud.now) asked c.args.within in
+    let all = providers_of c.args.cloud.now in
+    let found = lacks_of_roots all asked c.args.within in
     let kinds = possible_lacks (length (slots_of (asked_of c.args.query.now))) in
-    let roots = c.deref.ensures.value ∙ c.in_ok-roots.ensures.roots in
-    let found_is : c.in_ok-found.found.items ≡ found = c.in_ok-found.ensures ∙ ap (map (lack_at (providers_of c.args.cloud.now) asked)) roots in
+    let found_is : c.in_ok-found.found.items ≡ found = c.in_ok-found.ensures ∙ ap (map (lack_at all asked)) (c.deref.ensures.value ∙ c.in_ok-roots.ensures.roots) in
     let kinds_are : c.in_ok-kinds.kinds.items ≡ kinds = c.in_ok-kinds.ensures ∙ ap possible_lacks c.count_slots.ensures.count in
     let fits : c.count_lacks.result ≡ count_lacks found None = c.count_lacks.ensures ∙ ap (λ (fs : List (Option Lack)). count_lacks fs None) (c.deref-4.ensures.value ∙ found_is) in
     let sums : c.deref-5.result.now ≡ counted found kinds =
