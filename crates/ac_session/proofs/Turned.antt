@@ -65,7 +65,7 @@ not_refused (wanted.Rows query token traits) tries world may = refl
 not_refused (wanted.Fill query sum) tries world may = refl
 not_refused (wanted.Verdict query token detail) tries world may = absurd may
 not_refused (wanted.Explanation question) tries world may = refl
-not_refused (wanted.Hosts query sum) tries world may = refl
+not_refused (wanted.Hosts query sum within) tries world may = refl
 not_refused (wanted.Why query host) tries world may = refl
 
 pub query_refused : (version : Version) (query : List ℕ) (refusal : AskRefusal) → ExplainsQuery (query_fault version query) refusal

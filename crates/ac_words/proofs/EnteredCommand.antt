@@ -1,6 +1,6 @@
 -- Where `clap` finds no fault in the words of the program, they name a command that is not `help`, with each entry that it needs.
 use Rattle.std.proofs.Common.{◌≡◌, ◌<◌, ◌∷◌, [], Bool, true, false, List, Option, Some, None, codes, length, refl, sym, arith, inl, inr}
-use Rattle.std.specs.Prelude.{◌&&◌, ◌||◌, ⊤, find, if◌then◌else◌, is_some, not, option_and_then, slice_get}
+use Rattle.std.specs.Prelude.{◌&&◌, ◌||◌, ⊤, find, is_some, not, option_and_then, slice_get}
 use Rattle.std.specs.List.{list_all, list_any}
 use Rattle.std.specs.Option.{option_map, option_map_or}
 use Rattle.std.specs.Str.{bytes_eq}

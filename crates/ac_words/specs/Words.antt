@@ -3,7 +3,7 @@ use Rattle.std.specs.Prelude.{◌||◌, ◌≡◌, ◌≢◌, ◌&&◌, ⊤, ℕ
 use Rattle.std.specs.declared.alloc.Global.{Global}
 use Rattle.std.specs.declared.string.String.{String}
 use Rattle.std.specs.List.{list_any}
-use Rattle.std.specs.Option.{option_and_then}
+use Rattle.std.specs.Option.{option_and_then, option_flatten}
 use Rattle.std.specs.Str.{bytes_eq}
 use Rattle.clap.specs.Kinds.{or_else}
 use Rattle.clap.specs.Walk.{is_empty}
@@ -187,6 +187,10 @@ within_named (Some text) = option_map Some (id_value text)
 abbrev pub within_of : List Row → Option (Option ℕ)
 within_of rows = within_named (first_of (codes "in") rows)
 
+-- that aggregate, if one is named
+abbrev pub within_in : List Row → Option ℕ
+within_in rows = option_flatten (within_of rows)
+
 -- what is no UUID is a value that isn't valid
 abbrev pub within_kinds : Option (Option ℕ) → Kinds
 within_kinds None = InvalidValue ∷ []
@@ -278,7 +282,7 @@ call_of name.List rows = asking rows (list (after_of rows) (traits_of rows))
 call_of name.Fill rows = asking rows (fill (sum_of rows))
 call_of name.Verify rows = option_and_then (λ token. asking rows (verify token)) (first_of (codes "token") rows)
 call_of name.Explain rows = asking rows explain
-call_of name.Hosts rows = asking rows (hosts (sum_of rows) (option_and_then (λ within. within) (within_of rows)))
+call_of name.Hosts rows = asking rows (hosts (sum_of rows) (within_in rows))
 call_of name.Why rows = option_and_then (λ host. asking rows (why host)) (first_of (codes "host") rows)
 call_of name.Session rows = Some session
 

@@ -2,7 +2,7 @@
 ghost use Rattle.std.specs.Prelude.{◌≡◌, ◌∷◌, IfErr, IfOk, OnOk, Some, [], option_map, true};
 ghost use Rattle.ac_run.specs.Tasks.{command_shown};
 ghost use Rattle.clap.specs.Words.{first_of, found_of, rows_of, subcommand_rows_of};
-ghost use Rattle.ac_words.specs.Words.{IsMadeOf, Says, Tells, asking, call_of, call_shown, command_found, is_complete, is_set, option_kinds, own_faults, tries_kinds, tries_named, tries_of, version_kinds, version_named, version_of, within_kinds, within_named, within_of};
+ghost use Rattle.ac_words.specs.Words.{IsMadeOf, Says, Tells, asking, call_of, call_shown, command_found, is_complete, is_set, option_kinds, own_faults, tries_kinds, tries_named, tries_of, version_kinds, version_named, version_of, within_in, within_kinds, within_named, within_of};
 
 use super::tables::paths;
 use super::{Call, WordFault, Words, fault_of, grammar};
@@ -39,6 +39,23 @@ fn asking<'a>(entries: &ArgMatches<'a>, command: Command<'a>) -> Option<Call<'a>
     Some(Call::Job(command, past_mark(query)))
 }
 
+// The aggregate that a text names; without it, none is named.
+fn within_named(text: Option<&str>) -> Option<Option<u128>>
+    ensures { result ≡ within_named (option_map (λ t. t.now) text.entry) }
+{
+    match text {
+        None => Some(None),
+        Some(text) => Some(Some(Id::read(text.as_bytes())?.as_u128())),
+    }
+}
+
+// The aggregate whose roots are told, if one is named.
+fn within(entries: &ArgMatches<'_>) -> Option<u128>
+    ensures { result ≡ within_in (rows_of (found_of entries.now)) }
+{
+    within_named(entry(entries, "in")).flatten()
+}
+
 // What the entries of a command call for; none where one that it needs isn't there.
 #[tactic(auto, unfolding(crate::specs::Words::call_of))]
 fn call<'a>(name: Name, entries: &ArgMatches<'a>) -> Option<Call<'a>>
@@ -62,7 +79,7 @@ fn call<'a>(name: Name, entries: &ArgMatches<'a>) -> Option<Call<'a>>
         Name::Explain => asking(entries, Command::Explain),
         Name::Hosts => {
             let sum = is_set(entries, "sum");
-            let within = within_named(entry(entries, "in")).flatten();
+            let within = within(entries);
             asking(entries, Command::Hosts { sum, within })
         }
         Name::Why => {
@@ -142,16 +159,6 @@ fn tries(alloc: Global, name: Name, entries: &ArgMatches<'_>) -> Result<Option<u
             )?;
             Err(refusal(alloc, name, ErrorKind::InvalidValue, message.as_str())?)
         }
-    }
-}
-
-// The aggregate that a text names; without it, none is named.
-fn within_named(text: Option<&str>) -> Option<Option<u128>>
-    ensures { result ≡ within_named (option_map (λ t. t.now) text.entry) }
-{
-    match text {
-        None => Some(None),
-        Some(text) => Some(Some(Id::read(text.as_bytes())?.as_u128())),
     }
 }
 

@@ -1,0 +1,29 @@
+use Rattle.std.proofs.Common.{◌≡◌, [], ◌∷◌, Option, Some}
+use Rattle.ac_base.proofs.Small.{handed_on}
+use Rattle.clap.specs.Kinds.{or_else}
+use Rattle.clap.specs.Words.{Kinds, found_of, rows_of}
+use Rattle.ac_query.specs.declared.version.Version.{Version}
+use Rattle.ac_words.specs.Words.{Tells, option_kinds, table_kinds, version_kinds, version_of}
+use Rattle.ac_words.specs.declared.words.WordFault.{WordFault}
+use Rattle.ac_words.specs.declared.words.WordFault.TheVariants as fault
+use Rattle.ac_words.proofs.words.entries.words_with.Goals as goal
+
+-- what tells the first of two faults tells the first of three
+tells_first : (first behind : Kinds) (said : WordFault) → Tells first said → Tells (or_else first behind) said
+tells_first [] behind (fault.Help text) h = absurd h
+tells_first [] behind (fault.Version text) h = absurd h
+tells_first [] behind (fault.Refused text) h = absurd h.3
+tells_first [] behind fault.NoMemory h = tt
+tells_first (kind ∷ kinds) behind said h = h
+
+-- where the version has none
+tells_behind : (found : Option Version) (version : Version) (behind : Kinds) (said : WordFault) → found ≡ Some version → Tells behind said
+    → Tells (or_else (version_kinds found) behind) said
+tells_behind found version behind said is h = rw is h
+
+pub returns-in_err-tries-clause-fault : goal.returns-in_err-tries-clause-fault
+returns-in_err-tries-clause-fault c =
+    let rows = rows_of (found_of c.args.entries.now) in
+    handed_on c.from_residual-in_err-tries.result _ _ c.from_residual-in_err-tries.ensures.1
+    (tells_behind (version_of rows) c.in_ok-version.version (or_else (option_kinds rows) (table_kinds rows)) c.in_err-tries.field-0.0 c.in_ok-version.ensures.version
+    (tells_first (option_kinds rows) (table_kinds rows) c.in_err-tries.field-0.0 c.in_err-tries.ensures.fault))
