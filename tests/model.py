@@ -341,15 +341,23 @@ def single(value):
     return struct.unpack('f', struct.pack('f', value))[0]
 
 
+def ratio_of(has):
+    return float(f'{has.ratio // 1000000}.{has.ratio % 1000000:06}')
+
+
+def is_other(has):
+    """Whether an inventory has another capacity as a double."""
+    return int((has.total - has.reserved) * ratio_of(has)) != has.capacity()
+
+
 def counts_otherwise(provider, needs, query):
     """Whether a provider has another capacity as a double for one of these classes; or a smaller one by a ratio in single precision, and room for what is
     asked, while the query asks for more than is left then."""
     for name, amount in needs.items():
         has = provider.has[name]
-        free, ratio = has.total - has.reserved, float(f'{has.ratio // 1000000}.{has.ratio % 1000000:06}')
         asked = sum(group.needs.get(name, 0) for group in query.groups.values())
-        smaller = int(free * single(ratio))
-        if int(free * ratio) != has.capacity() or smaller < has.capacity() and amount + has.used <= has.capacity() and asked > max(smaller - has.used, 0):
+        smaller = int((has.total - has.reserved) * single(ratio_of(has)))
+        if is_other(has) or smaller < has.capacity() and amount + has.used <= has.capacity() and asked > max(smaller - has.used, 0):
             return True
     return False
 
@@ -409,7 +417,8 @@ def concerned(query, cloud):
     yield any(forbids and beside(needs, set(listed)) for needs, group, _ in free for forbids, listed in group.rules)
     yield any(not meets_rules(provider.aggregates, group) for needs, group, some in free for provider in lent(needs, some))
     yield any(group.tree and lent(needs, some) for needs, group, some in plain)
-    yield any(counts_otherwise(provider, needs, query) for _, needs, _, some in fitting for provider in some)
+    others = [provider.root() for provider in cloud if any(is_other(has) for has in provider.has.values())]
+    yield any(counts_otherwise(provider, needs, query) or provider.root() in others for _, needs, _, some in fitting for provider in some)
     yield bool(bare) and (any(lent(needs, some) for _, needs, _, some in fitting if not needs)
                           or all(lent(needs, some) for _, needs, _, some in fitting if needs))
 

@@ -1,2 +1,3 @@
 pub mod DoublesLemmas
+pub mod MarkLemmas
 pub mod SharesLemmas

@@ -7,7 +7,7 @@ use Rattle.ac_cloud.specs.World.{Provider, provider_at}
 use Rattle.ac_rules.specs.Placed.{placed_at}
 use Rattle.ac_differences.specs.Differing.{forbids_a_root, has_to_lend, is_met_by, some_provider}
 
-any_both : (f g : ℕ → Bool) (xs : List ℕ) → list_any (λ p. f p && g p) xs ≡ (list_any f xs && list_any (λ p. f p && g p) xs)
+pub any_both : (f g : ℕ → Bool) (xs : List ℕ) → list_any (λ p. f p && g p) xs ≡ (list_any f xs && list_any (λ p. f p && g p) xs)
 any_both f g [] = grind arith
 any_both f g (x ∷ xs) = let more = any_both f g xs in grind (arith, more)
 

@@ -267,10 +267,14 @@ total_of (slot ∷ slots) class = amount_of slot.needs class + total_of slots cl
 abbrev pub takes_last : InventoryNumbers → ℕ → ℕ → ℕ → Bool
 takes_last i used amount total = falls_short i && nat_le amount (capacity i - used) && nat_lt (capacity_by 24 i - used) total
 
+-- by a ratio in double precision the capacity is another
+abbrev pub is_other : InventoryNumbers → Bool
+is_other i = not (capacity_by 53 i == capacity i)
+
 -- an inventory has another capacity by a ratio in double precision, or is such a one
 abbrev pub counts_otherwise : Option InventoryNumbers → ℕ → ℕ → ℕ → Bool
 counts_otherwise None used amount total = false
-counts_otherwise (Some i) used amount total = not (capacity_by 53 i == capacity i) || takes_last i used amount total
+counts_otherwise (Some i) used amount total = is_other i || takes_last i used amount total
 
 -- that holds of the inventory that a need of a slot takes of a provider
 abbrev pub needs_otherwise : List Provider → Asked → ℕ → List ℕ × ℕ → Bool
@@ -282,8 +286,36 @@ abbrev pub gives_otherwise : List Provider → Asked → Placed → Bool
 gives_otherwise all asked x = list_any (needs_otherwise all asked x.provider) x.slot.needs && fits all x
 
 -- such a provider is there for some slot
+abbrev pub some_gives_otherwise : List Provider → Asked → Bool
+some_gives_otherwise all asked = list_any (λ s. some_provider all asked s (gives_otherwise all asked)) (slot_places asked)
+
+-- some inventory of a provider has another capacity by a ratio in double precision, whatever its class
+unfoldable pub has_other : Provider → Bool
+has_other p = list_any (λ entry. is_other entry.1.inventory) p.entries
+
+-- some provider has
+abbrev pub some_has_other : List Provider → Bool
+some_has_other all = list_any (λ p. has_other (provider_at all p)) (range_with_len 0 (length all))
+
+-- the provider at a place has, and is of the tree of this root
+abbrev pub has_other_below : List Provider → ℕ → ℕ → Bool
+has_other_below all root p = has_other (provider_at all p) && (root_of all (id_at all p) == root)
+
+-- some provider of the tree of this root has
+unfoldable pub tree_has_other : List Provider → ℕ → Bool
+tree_has_other all root = list_any (has_other_below all root) (range_with_len 0 (length all))
+
+-- A provider meets its slot's rules, and some provider of its tree has such an inventory. A candidate with the one has the other in its summaries.
+abbrev pub is_summarized_otherwise : List Provider → Placed → Bool
+is_summarized_otherwise all x = tree_has_other all (root_of all (id_at all x.provider)) && fits all x
+
+-- such a provider is there for some slot
+abbrev pub summarizes_otherwise : List Provider → Asked → Bool
+summarizes_otherwise all asked = list_any (λ s. some_provider all asked s (is_summarized_otherwise all)) (slot_places asked)
+
+-- what a slot asks is taken, or the summaries tell a capacity, otherwise
 unfoldable pub computes_otherwise : List Provider → Asked → Bool
-computes_otherwise all asked = list_any (λ s. some_provider all asked s (gives_otherwise all asked)) (slot_places asked)
+computes_otherwise all asked = some_gives_otherwise all asked || summarizes_otherwise all asked
 
 -- ---- The differences
 

@@ -1,2 +1,3 @@
 pub mod Differing
 pub mod Doubles
+pub mod Marks

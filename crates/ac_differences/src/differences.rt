@@ -1,5 +1,5 @@
 //! Where the running service may answer otherwise than the rules: the differences of docs/DIFFERENCES.md, and which of them may concern a query.
-ghost use Rattle.std.specs.Prelude.{◌≡◌};
+ghost use Rattle.std.specs.Prelude.{◌≡◌, IfOk};
 ghost use Rattle.ac_cloud.specs.Cloud.CloudWorld.{providers_of};
 ghost use Rattle.ac_query.specs.Shown.Queries.{asked_of};
 ghost use Rattle.ac_differences.specs.Differing.{all_differences, applies};
@@ -11,6 +11,7 @@ mod fits;
 mod mixes;
 mod shares;
 mod steps;
+mod summaries;
 
 use self::asks::{
     has_bare_group, has_contradiction, has_forbidding_group, has_two_suffixes, is_policy_none,
@@ -22,8 +23,10 @@ use self::shares::{
     some_lends_by_its_root,
 };
 use self::steps::computes_otherwise;
+use ac_base::NoMemory;
 use ac_cloud::Cloud;
 use ac_query::Query;
+use std::alloc::Global;
 
 /// A way in which Placement 8.0.0 answers otherwise than the rules: a heading of docs/DIFFERENCES.md.
 #[derive(Clone, Copy, Debug, PartialEq, Eq)]
@@ -83,10 +86,16 @@ pub fn all_differences() -> &'static [Difference]
 
 /// Whether a difference may concern a query over a cloud: without that, the service answers as the rules say, as far as this difference goes.
 #[tactic(auto, unfolding(crate::specs::Differing::applies))]
-pub fn applies(cloud: &Cloud, query: &Query, difference: Difference) -> bool
-    ensures { result ≡ applies (providers_of cloud.now) (asked_of query.now) difference }
+pub fn applies(
+    alloc: Global,
+    cloud: &Cloud,
+    query: &Query,
+    difference: Difference,
+) -> Result<bool, NoMemory>
+    ensures { IfOk result (λ concerned.
+        concerned ≡ applies (providers_of cloud.now) (asked_of query.now) difference) }
 {
-    match difference {
+    Ok(match difference {
         Difference::AmountsOfTwoGroups => {
             !is_policy_none(query) && mixes_classes(cloud, query) && has_choice(cloud, query)
         }
@@ -103,7 +112,7 @@ pub fn applies(cloud: &Cloud, query: &Query, difference: Difference) -> bool
         Difference::ForbiddenAggregateOfAnotherTree => lends_beside_forbidden(cloud, query),
         Difference::MemberOfBelowRoot => some_lends_by_its_root(cloud, query),
         Difference::InTreeAndSharing => lends_in_tree(cloud, query),
-        Difference::FloatingPoint => computes_otherwise(cloud, query),
+        Difference::FloatingPoint => computes_otherwise(alloc, cloud, query)?,
         Difference::TreeOutsideSummaries => gives_no_resources(cloud, query),
-    }
+    })
 }

@@ -1,6 +1,7 @@
 //! Capacities in floating point, computed in whole numbers.
 ghost use Rattle.std.specs.Prelude.{◌≡◌, ◌+◌, ◌*◌, ◌/◌, ◌^◌, ◌<◌, ◌≤◌};
 ghost use Rattle.ac_base.specs.Texts.{greatest_ratio};
+ghost use Rattle.ac_differences.specs.Differing.{is_other};
 ghost use Rattle.ac_differences.specs.Doubles.{capacity_by, held, nearest, rounded, step};
 
 use ac_base::{Inventory, Ratio};
@@ -73,4 +74,11 @@ pub(crate) fn capacity_by(digits: u32, inventory: &Inventory) -> u64
 {
     let free = u128::from(inventory.total().saturating_sub(inventory.reserved()));
     (rounded(53, free * held(digits, inventory.ratio()), 1) / (1 << 74)) as u64
+}
+
+/// Whether the capacity by a ratio in double precision is another.
+pub(crate) fn is_other(inventory: &Inventory) -> bool
+    ensures { result ≡ is_other inventory.now }
+{
+    capacity_by(53, inventory) != inventory.capacity()
 }

@@ -1,5 +1,5 @@
 //! Capacities that are others in floating point, and whether a query comes to them.
-ghost use Rattle.std.specs.Prelude.{◌≡◌, ◌-◌, ◌<◌, length, map};
+ghost use Rattle.std.specs.Prelude.{◌≡◌, ◌-◌, ◌<◌, IfOk, length, map};
 ghost use Rattle.std.specs.List.{list_any};
 ghost use Rattle.ac_base.specs.Names.{class_bytes};
 ghost use Rattle.ac_cloud.specs.Cloud.CloudWorld.{providers_of};
@@ -8,14 +8,16 @@ ghost use Rattle.ac_query.specs.Shown.Groups.{need_entry};
 ghost use Rattle.ac_query.specs.Shown.Queries.{asked_of};
 ghost use Rattle.ac_rules.specs.Shown.Assignments.{placed_of};
 ghost use Rattle.ac_rules.specs.Together.{amount_of};
-ghost use Rattle.ac_differences.specs.Differing.{computes_otherwise, gives_otherwise, needs_otherwise, some_provider, takes_last, total_of};
+ghost use Rattle.ac_differences.specs.Differing.{computes_otherwise, gives_otherwise, needs_otherwise, some_gives_otherwise, some_provider, takes_last, total_of};
 
-use super::doubles::capacity_by;
+use super::doubles::{capacity_by, is_other};
+use super::summaries::summarizes_otherwise;
 use ac_base::{ClassName, Inventory};
 use ac_cloud::Cloud;
 use ac_query::{Need, Query};
 use ac_rules::Placed;
 use ac_rules::slots::{count_slots, needs_at};
+use std::alloc::{AllocError, Global};
 
 // What is left of an amount after what needs ask of a class; 0 where they ask for more.
 fn without_needs(needs: &[Need], class: &ClassName, amount: u64) -> u64
@@ -63,8 +65,7 @@ fn needs_otherwise(placed: &Placed, need: &Need) -> bool
     let Some(inventory) = provider.inventory(need.class()) else {
         return false;
     };
-    capacity_by(53, inventory) != inventory.capacity()
-        || takes_last(placed.query, need, inventory, provider.used(need.class()))
+    is_other(inventory) || takes_last(placed.query, need, inventory, provider.used(need.class()))
 }
 
 // Whether that holds of one of a slot's needs.
@@ -88,7 +89,7 @@ fn gives_otherwise(placed: &Placed) -> bool
 
 // Whether there is such a provider for a slot.
 #[tactic(auto, using(ac_cloud::proofs::Ranges::range_more, ac_cloud::proofs::Ranges::range_end))]
-fn some_gives_otherwise(cloud: &Cloud, query: &Query, s: usize) -> bool
+fn slot_gives_otherwise(cloud: &Cloud, query: &Query, s: usize) -> bool
     requires { s < length (slots_of (asked_of query.now)) }
     ensures { result ≡ some_provider (providers_of cloud.now) (asked_of query.now) s
         (gives_otherwise (providers_of cloud.now) (asked_of query.now)) }
@@ -96,11 +97,27 @@ fn some_gives_otherwise(cloud: &Cloud, query: &Query, s: usize) -> bool
     (0..cloud.len()).any(|ix| gives_otherwise(&Placed::new(cloud, query, s, ix)))
 }
 
-/// Whether for some slot some provider meets the rules, and has an inventory for one of the slot's needs whose capacity is another in floating
-/// point, or falls short of what is asked there.
-#[tactic(auto, using(ac_cloud::proofs::Ranges::range_more, ac_cloud::proofs::Ranges::range_end), unfolding(crate::specs::Differing::computes_otherwise))]
-pub(crate) fn computes_otherwise(cloud: &Cloud, query: &Query) -> bool
-    ensures { result ≡ computes_otherwise (providers_of cloud.now) (asked_of query.now) }
+// Whether for some slot some provider meets the rules, and has an inventory for one of the slot's needs whose capacity is another in floating
+// point, or falls short of what is asked there.
+#[tactic(auto, using(ac_cloud::proofs::Ranges::range_more, ac_cloud::proofs::Ranges::range_end))]
+fn some_gives_otherwise(cloud: &Cloud, query: &Query) -> bool
+    ensures { result ≡ some_gives_otherwise (providers_of cloud.now) (asked_of query.now) }
 {
-    (0..count_slots(query)).any(|s| some_gives_otherwise(cloud, query, s))
+    (0..count_slots(query)).any(|s| slot_gives_otherwise(cloud, query, s))
+}
+
+/// Whether that is so, or for some slot some provider meets the rules whose tree has an inventory with another capacity in double precision.
+#[tactic(auto, unfolding(crate::specs::Differing::computes_otherwise))]
+pub(crate) fn computes_otherwise(
+    alloc: Global,
+    cloud: &Cloud,
+    query: &Query,
+) -> Result<bool, AllocError>
+    ensures { IfOk result (λ otherwise.
+        otherwise ≡ computes_otherwise (providers_of cloud.now) (asked_of query.now)) }
+{
+    if some_gives_otherwise(cloud, query) {
+        return Ok(true);
+    }
+    summarizes_otherwise(alloc, cloud, query)
 }

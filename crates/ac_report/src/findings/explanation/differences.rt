@@ -110,11 +110,20 @@ fn adds(difference: Difference) -> bool
 }
 
 // Whether a difference may show, by whether there is a candidate.
-fn may_show(cloud: &Cloud, query: &Query, found: bool, difference: Difference) -> bool
-    ensures { result
-        ≡ may_show (providers_of cloud.now) (asked_of query.now) found difference }
+fn may_show(
+    alloc: Global,
+    cloud: &Cloud,
+    query: &Query,
+    found: bool,
+    difference: Difference,
+) -> Result<bool, NoMemory>
+    ensures { IfOk result (λ shows.
+        shows ≡ may_show (providers_of cloud.now) (asked_of query.now) found difference) }
 {
-    (found || adds(difference)) && applies(cloud, query, difference)
+    if !found && !adds(difference) {
+        return Ok(false);
+    }
+    applies(alloc, cloud, query, difference)
 }
 
 /// A line for each difference that may show in what the service answers to a query over a cloud, by whether there is a candidate.
@@ -129,7 +138,7 @@ pub fn differences_text(
 {
     let mut text = Vec::new(alloc);
     for difference in all_differences() {
-        if may_show(cloud, query, found, *difference) {
+        if may_show(alloc, cloud, query, found, *difference)? {
             add_line(&mut text, *difference)?;
         }
     }
