@@ -309,7 +309,7 @@ def answer(command, asked, assignment, cloud):
     if command == 'explain':
         return explanation(found, query, cloud), none
     if command == 'hosts':
-        return host_rows(found, query, cloud), none
+        return host_rows(found, text, query, cloud), none
     if command == 'count':
         return sum_text(len(filled(query, cloud)), *bound(found, query, cloud)), none
     rows = why_rows(assignment[0].root(), found, text, query, cloud)

@@ -68,11 +68,11 @@ def query(name, text, out='', line=''):
     return Case(f'tokens: {name}', ['tokens', text], out, line and line + '\n', 4 if line else 0, ONE)
 
 
-def explained(name, text, slots, counts, trees, made, because, missing=(), without=()):
-    """Nothing is found, though these slots all have these counts. Nobody has what is missing, and nothing is found without these things either; and why."""
+def explained(name, text, slots, counts, trees, made, because, missing=(), other=()):
+    """Nothing is found, though these slots all have these counts. Nobody has what is missing, and nothing is found in these other ways either; and why."""
     told = [f'slot {number} {slot}: {counts}' for number, slot in enumerate(slots, 1)]
     nobody = [f'nobody has {name}' for name in missing]
-    kept = [f'without {name}: none' for name in without]
+    kept = [f'{way}: none' for way in other]
     told_lines = [*told, trees, *nobody, 'candidates: none', *kept, f'because {because}']
     return Case(f'explain: {name}', ['explain', text], ''.join(f'{line}\n' for line in told_lines), status=1, tables=made)
 
@@ -149,7 +149,7 @@ LARGE = [
     Case('tokens: eight functions apart on 1000 hosts of seven', ['tokens', EIGHT_APART], tables=FUNCTIONS),
     explained('eight functions apart on 1000 hosts of seven', EIGHT_APART, [f'"{n}" SRIOV_NET_VF:1' for n in range(8)],
               'units 7000 of 8000, traits 7000, aggregates 7000, tree 7000, room 7000', 'trees 1000: root traits 1000, each slot 1000, required traits 1000', FUNCTIONS,
-              'no providers for the slots go together', without=['group_policy=isolate']),
+              'no providers for the slots go together', other=['with group_policy=none']),
     explained('64 groups of four classes, which nobody has', '&'.join([*EACH, 'group_policy=none']),
               [f'"{n}" C0:1,C1:1,C2:1,C3:1' for n in sorted(map(str, range(64)))],
               'units 0 of 1, traits 0, aggregates 0, tree 0, room 0', 'trees 1: root traits 1, each slot 0, required traits 0', ONE,

@@ -34,7 +34,7 @@ _ac_cli() {
         fill) offered='--tables --providers --inventories --usages --traits --aggregates --detail --microversion --tries --sum --help' ;;
         verify) offered='--tables --providers --inventories --usages --traits --aggregates --detail --microversion --help' ;;
         explain) offered='--tables --providers --inventories --usages --traits --aggregates --detail --microversion --tries --help' ;;
-        hosts) offered='--tables --providers --inventories --usages --traits --aggregates --detail --microversion --tries --sum --help' ;;
+        hosts) offered='--tables --providers --inventories --usages --traits --aggregates --detail --microversion --tries --in --sum --help' ;;
         why) offered='--tables --providers --inventories --usages --traits --aggregates --detail --microversion --tries --help' ;;
         session) offered='--tables --providers --inventories --usages --traits --aggregates --detail --microversion --tries --help' ;;
         help) offered='check candidates tokens list fill verify explain hosts why session help' ;;
