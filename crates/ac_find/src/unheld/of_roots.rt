@@ -285,7 +285,8 @@ fn tell_lacked(
 
 // Nothing is told yet.
 fn nothing_told(alloc: Global, cloud: &Cloud) -> Result<Vec<Option<Unheld>>, NoMemory>
-    ensures { IfOk result (λ found. found.items ≡ replicate (length (providers_of cloud.now)) None) }
+    ensures { IfOk result (λ found.
+        found.items ≡ replicate (length (providers_of cloud.now)) None) }
 {
     Ok(vec![in alloc; None; cloud.len() as usize]?)
 }
@@ -310,8 +311,8 @@ pub fn find_unheld(
 // The words of a required trait at a place.
 fn trait_text(alloc: Global, names: &[TraitName], k: usize) -> Result<String, NoMemory>
     ensures { IfOk result (λ text. string_bytes text
-        ≡ (if nat_lt k (length names.now) then missing_text (get_or (map trait_bytes names.now) k [])
-        else [])) }
+        ≡ (if nat_lt k (length names.now)
+        then missing_text (get_or (map trait_bytes names.now) k []) else [])) }
 {
     if k < names.len() {
         missing_text(alloc, &names[k])
@@ -323,8 +324,8 @@ fn trait_text(alloc: Global, names: &[TraitName], k: usize) -> Result<String, No
 // The words of a list at a place.
 fn list_text(alloc: Global, lists: &[AnyOf], k: usize) -> Result<String, NoMemory>
     ensures { IfOk result (λ text. string_bytes text
-        ≡ (if nat_lt k (length lists.now) then none_of_text (get_or (map any_of_shown lists.now) k [])
-        else [])) }
+        ≡ (if nat_lt k (length lists.now)
+        then none_of_text (get_or (map any_of_shown lists.now) k []) else [])) }
 {
     if k < lists.len() {
         none_of_text(alloc, lists[k].names())
