@@ -431,19 +431,23 @@ def passing(suffix, needs, query, cloud):
     return [[provider for provider in cloud if set(needs) <= set(provider.has)], *serving(suffix, needs, query, cloud)]
 
 
+def held_at(root, query, cloud):
+    """The traits of the providers available at a root that pass all tests of a slot of the group without a suffix."""
+    left = [provider for suffix, needs in query.slots() if not suffix for provider in passing(suffix, needs, query, cloud)[-1]]
+    return {name for provider in left if available(provider, root, cloud) for name in provider.traits}
+
+
 def lacks(root, found, query, cloud):
     """What a root lacks: the number of a slot, if one slot asks for what is missing, and the name of what is missing. Both are empty if it fits."""
     if not takes(root, query):
         return '', 'root traits'
     hosts = [provider for provider in cloud if available(provider, root, cloud)]
-    together = set()
     for number, (suffix, needs) in enumerate(query.slots(), 1):
         left = [[provider for provider in some if provider in hosts] for some in passing(suffix, needs, query, cloud)]
         for stage, some in zip(STAGES, left):
             if not some:
                 return number, stage
-        together |= set().union(*(provider.traits for provider in left[-1] if not suffix))
-    if '' in query.groups and not meets(query.groups[''], together):
+    if '' in query.groups and not meets(query.groups[''], held_at(root, query, cloud)):
         return '', 'required traits'
     if not any(all(provider in hosts for provider in assignment) for assignment in found):
         return '', 'together'
@@ -527,7 +531,11 @@ def host_rows(found, text, query, cloud, within=None):
     for root in roots_of(cloud, within):
         slot, lack = lacks(root, found, query, cloud)
         suffix, needs = [*query.slots()][slot - 1] if slot else ('', {})
-        wanting = slot_detail(root, suffix, needs, text, query, cloud) if slot else unmet_by_root(root, query)[0] if lack == 'root traits' else ''
+        wanting = slot_detail(root, suffix, needs, text, query, cloud) if slot else ''
+        if lack == 'root traits':
+            wanting = unmet_by_root(root, query)[0]
+        if lack == 'required traits':
+            wanting = unmet(held_at(root, query, cloud), '', text, query)[0]
         rows.append([root.name, '', 'no' if lack else 'yes', slot, lack, asks(needs), wanting])
     return written(rows)
 
@@ -546,7 +554,6 @@ def why_rows(root, found, text, query, cloud):
     """How far the query of this text comes in the tree of a root."""
     rows = [['slot', 'suffix', 'asks', 'provider', 'name', 'lacks', 'detail']]
     hosts = [provider for provider in cloud if available(provider, root, cloud)]
-    held = set()
     for number, (suffix, needs) in enumerate(query.slots(), 1):
         front = [number, suffix, asks(needs)]
         rows += [[*front, '', '', 'no inventory', f'{name}: nobody here'] for name in sorted(needs) if not any(name in provider.has for provider in hosts)]
@@ -555,11 +562,9 @@ def why_rows(root, found, text, query, cloud):
             if not needs or set(needs) & set(provider.has):
                 stage = next((stage for stage, some in zip(STAGES, left) if provider not in some), '')
                 rows.append([*front, provider.name, '', stage, detail(provider, suffix, needs, stage, text, query)])
-        if not suffix:
-            held |= {name for provider in hosts if provider in left[-1] for name in provider.traits}
     rows.append(['root', '', '', root.name, '', '' if takes(root, query) else 'root traits', [*unmet_by_root(root, query), ''][0]])
     slot, lack = lacks(root, found, query, cloud)
-    verdict = unmet(held, '', text, query)[0] if lack == 'required traits' else 'does not fit' if lack else 'fits'
+    verdict = unmet(held_at(root, query, cloud), '', text, query)[0] if lack == 'required traits' else 'does not fit' if lack else 'fits'
     rows.append(['verdict', '', '', root.name, '', lack, f'slot {slot}: {verdict}' if slot else verdict])
     return written(rows)
 

@@ -10,3 +10,4 @@ pub mod NoneLemmas
 pub mod MarkLemmas
 pub mod CountLaws
 pub mod NobodyLaws
+pub mod UnheldLemmas

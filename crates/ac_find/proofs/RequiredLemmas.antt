@@ -1,13 +1,18 @@
 -- Which marks of roots stay by the traits that the group without a suffix requires.
-use Rattle.std.proofs.Common.{◌≡◌, ◌∙◌, ◌<◌, ℕ, ◌+◌, zero, suc, Bool, true, false, ◌&&◌, ◌||◌, List, [], ◌∷◌, length, map, take, get_or, slice_index, slice_index_or, Option, Some, None, refl, sym, ap, arith}
-use Rattle.std.specs.Prelude.{if◌then◌else◌}
-use Rattle.std.specs.List.{All, filter, list_all, list_any, range_with_len}
+use Rattle.std.proofs.Common.{inl, inr, ◌≡◌, ◌∙◌, ◌<◌, ℕ, ◌+◌, zero, suc, Bool, true, false, ◌&&◌, ◌||◌, List, [], ◌∷◌, length, map, take, get_or, slice_index, slice_index_or, Option, Some, None, refl, sym, ap, arith, rules}
+use Rattle.std.specs.Prelude.{if◌then◌else◌, not, position}
+use Rattle.std.specs.List.{All, filter, list_all, list_any, position_from, range_with_len}
+use Rattle.std.specs.List.Sorted.{IsStrictlySortedBy}
 use Rattle.std.specs.Option.{is_some}
 use Rattle.std.proofs.Math.Bool.{and-true}
 use Rattle.std.proofs.lemmas.Bool.{cases_Bool, false≢true}
+use Rattle.std.proofs.lemmas.Iterator.Adapters.{position_from-zero}
 use Rattle.std.proofs.lemmas.List.Elements.{All-from_recursion}
 use Rattle.std.proofs.lemmas.List.Folds.{list_all_more}
 use Rattle.std.proofs.lemmas.List.FromFn.{fill_by_all, get_or-map-range_with_len, length-map-range_with_len}
+use Rattle.ac_base.specs.Names.{trait_bytes}
+use Rattle.ac_base.specs.Texts.{text_cmp}
+use Rattle.ac_base.specs.declared.name.TraitName.{TraitName}
 use Rattle.ac_query.specs.Asked.{Asked, Group, slots_of}
 use Rattle.ac_cloud.specs.World.{Provider, provider_at, has_trait, is_available_at}
 use Rattle.ac_prune.specs.Ahead.{hosts_of}
@@ -15,6 +20,7 @@ use Rattle.ac_prune.specs.Loads.{AreLimited}
 use Rattle.ac_rules.specs.Own.{has_any}
 use Rattle.ac_find.specs.Explained.{are_held, has_each_slot, holds_required, is_held, is_one_held, serves_unsuffixed}
 use Rattle.ac_find.specs.Shown.Explained.{AreKept, holding, holds_each, requires_some, served_roots, serving, some_has}
+use Rattle.ac_find.specs.Unheld.{unheld_trait}
 use Rattle.ac_prune.proofs.Roots.RootLemmas.{hosts_low}
 use Rattle.ac_rules.proofs.Elements.{each_filter, each_weaker}
 use Rattle.ac_rules.proofs.EachSlot.AnchorLemmas.{each_range}
@@ -66,6 +72,10 @@ kept_limited all asked names rooms old new room limited r low =
     limited r low ∙ ap (λ b. slice_index_or old r false && b) (reaches holds rooms (hosts_of all r) n (hosts_low all r) room_at)
 
 -- a list of one trait
+pub alone_rises : (name : TraitName) → IsStrictlySortedBy text_cmp (map trait_bytes (name ∷ []))
+unfolding IsStrictlySortedBy
+alone_rises name = search (arith, rules)
+
 one_held : (s t : ℕ → Bool) (ps : List ℕ) → list_any (λ p. s p && (t p || false)) ps ≡ list_any (λ p. s p && t p) ps
 one_held s t [] = refl
 one_held s t (p ∷ ps) = grind (arith, one_held s t ps)
@@ -86,6 +96,20 @@ pub held_by_each : (all : List Provider) (asked : Asked) (r : ℕ) (names : List
 unfolding hosts_of
 held_by_each all asked r names =
     all_alike _ _ names (λ name. any_kept (serves_unsuffixed all asked) (λ p. is_available_at all p r) (λ p. has_trait (provider_at all p) name) (range_with_len 0 (length all)))
+
+-- the first of some traits that none of them has
+pub first_by_each : (all : List Provider) (asked : Asked) (r : ℕ) (names : List (List ℕ)) → position (λ name. not (some_has all (serving all asked r) name)) names ≡ unheld_trait all asked r names
+unfolding hosts_of
+first_by_each all asked r names = λ i.
+    position (λ name. not (any_kept (serves_unsuffixed all asked) (λ p. is_available_at all p r) (λ p. has_trait (provider_at all p) name) (range_with_len 0 (length all)) i)) names
+
+-- the place of the first that passes a test, as it is shown
+from_map : {X Y : Type 0} (test : Y → Bool) (view : X → Y) (i : ℕ) (xs : List X) → position_from (λ x. test (view x)) i xs ≡ position_from test i (map view xs)
+from_map test view i [] = refl
+from_map test view i (x ∷ xs) = elim (cases_Bool (test (view x))) [ inl e ↦ rw e refl | inr e ↦ rw e (from_map test view (i + 1) xs) ]
+
+pub first_map : {X Y : Type 0} (test : Y → Bool) (view : X → Y) (xs : List X) → position (λ x. test (view x)) xs ≡ position test (map view xs)
+first_map test view xs = position_from-zero (λ x. test (view x)) xs ∙ (from_map test view 0 xs ∙ sym (position_from-zero test (map view xs)))
 
 pub serving_low : (all : List Provider) (asked : Asked) (r : ℕ) → All (λ p. p < length all) (serving all asked r)
 serving_low all asked r =

@@ -2,3 +2,4 @@
 pub mod Explained
 pub mod Lacking
 pub mod Furthest
+pub mod Unheld

@@ -22,4 +22,5 @@ pub use furthest::{Wanting, find_wanting};
 pub use inventories::{has_inventory, somebody_there_has_class};
 pub use lacks::{Lack, Stage, find_lack, find_lacks, first_failed};
 pub use missing::{mark_had, somebody_has_class, somebody_has_one, somebody_is, somebody_is_in};
+pub use unheld::of_roots::{Unheld, find_unheld, unheld_text};
 pub use unheld::unheld_detail;

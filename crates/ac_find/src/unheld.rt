@@ -11,6 +11,8 @@ ghost use Rattle.ac_query.specs.Shown.Queries.{asked_of};
 ghost use Rattle.ac_find.specs.Explained.{is_held, is_one_held, serves_unsuffixed};
 ghost use Rattle.ac_find.specs.Unheld.{first_unheld, first_unheld_list, unheld_detail, unheld_group_detail, unheld_list_detail, unsuffixed_group};
 
+pub(crate) mod of_roots;
+
 use crate::counts::required::Unsuffixed;
 use crate::details::traits::{missing_text, none_of_text};
 use ac_base::{NoMemory, TraitName};

@@ -1,6 +1,6 @@
 //! The traits that the group without a suffix requires: at which roots they are held by providers that its slots may have.
 
-ghost use Rattle.std.specs.Prelude.{◌≡◌, ◌<◌, ◌&&◌, ◌||◌, IfOk, false, length, map, slice_index_or};
+ghost use Rattle.std.specs.Prelude.{◌≡◌, ◌<◌, ◌&&◌, ◌||◌, IfOk, false, length, map, not, position, slice_index_or};
 ghost use Rattle.std.specs.List.{All, list_all, range_with_len};
 ghost use Rattle.std.specs.List.Sorted.{IsStrictlySortedBy};
 ghost use Rattle.std.specs.Option.{is_some};
@@ -28,8 +28,8 @@ use std::slice;
 // At how many roots it pays to look one by one.
 const FEW: usize = 4;
 
-// Whether few roots are marked.
-fn are_few(marks: &[bool]) -> bool {
+/// Whether few roots are marked.
+pub(crate) fn are_few(marks: &[bool]) -> bool {
     marks.iter().filter(|mark| **mark).count() <= FEW
 }
 
@@ -57,7 +57,7 @@ fn mark_unsuffixed(alloc: Global, cloud: &Cloud, query: &Query) -> Result<Vec<bo
 
 // Providers of a cloud.
 #[derive(Drop)]
-struct Serving<'a> {
+pub(crate) struct Serving<'a> {
     cloud: &'a Cloud,
     places: Vec<u32>,
     ghost inside: { All (λ p. p < length (providers_of cloud.now)) places.items },
@@ -79,6 +79,15 @@ impl<'a> Serving<'a> {
             (map trait_bytes names.now) }
     {
         names.iter().all(|name| self.some_has(name))
+    }
+
+    // The place of the first of these traits that none of them has.
+    pub(crate) fn first_unhad(&self, names: &[TraitName]) -> Option<usize>
+        ensures { result ≡ position (λ name. not
+            (some_has (providers_of self.now.cloud.now) self.now.places.items name))
+            (map trait_bytes names.now) }
+    {
+        names.iter().position(|name| !self.some_has(name))
     }
 }
 
@@ -141,7 +150,7 @@ impl<'a> Unsuffixed<'a> {
     }
 
     // Drops the roots at which none of them has one of these traits, which rise.
-    fn limit_names(
+    pub(crate) fn limit_names(
         &self,
         alloc: Global,
         names: &[TraitName],
@@ -173,7 +182,7 @@ impl<'a> Unsuffixed<'a> {
 
     // Those of them that are available at a root.
     #[tactic(auto, using(crate::proofs::RequiredLemmas::serving_low))]
-    fn at_root(&self, alloc: Global, root: u32) -> Result<Serving<'a>, NoMemory>
+    pub(crate) fn at_root(&self, alloc: Global, root: u32) -> Result<Serving<'a>, NoMemory>
         requires { root < length (providers_of self.now.cloud.now) }
         ensures cloud { IfOk result (λ at. at.cloud ≡ self.now.cloud) }
         ensures places { IfOk result (λ at. at.places.items

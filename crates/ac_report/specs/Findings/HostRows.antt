@@ -15,6 +15,7 @@ use Rattle.ac_prune.specs.Fitting.{fits_at}
 use Rattle.ac_find.specs.Details.{root_detail}
 use Rattle.ac_find.specs.Furthest.{wanting}
 use Rattle.ac_find.specs.Lacking.{lack_at}
+use Rattle.ac_find.specs.Unheld.{unheld_detail}
 use Rattle.ac_find.specs.declared.lacks.Stage.{Stage}
 use Rattle.ac_find.specs.declared.lacks.Stage.TheVariants as stage
 use Rattle.ac_find.specs.declared.lacks.Lack.{Lack}
@@ -54,10 +55,11 @@ abbrev pub asks_of : Asked → Option Lack → List ℕ
 asks_of asked (Some (lack.Slot slot stage)) = asks_text (slot_at asked (slot - 1)).needs
 asks_of asked _ = []
 
--- what is wanting there, or which trait of the root is
+-- what is wanting there, or which trait of the root is, or what isn't held of what the group without a suffix requires
 abbrev pub host_detail : List Provider → Asked → ℕ → Option Lack → List ℕ
 host_detail all asked r (Some (lack.Slot slot stage)) = slot_detail all (slot_at asked (slot - 1)) (wanting all (slot_at asked (slot - 1)) r)
 host_detail all asked r (Some lack.RootTraits) = root_detail (provider_at all r) asked
+host_detail all asked r (Some lack.RequiredTraits) = unheld_detail all asked r
 host_detail all asked r _ = []
 
 -- ---- The rows

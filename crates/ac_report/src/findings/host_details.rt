@@ -8,6 +8,7 @@ ghost use Rattle.ac_query.specs.Shown.Queries.{asked_of};
 ghost use Rattle.ac_rules.specs.Placed.{slot_at};
 ghost use Rattle.ac_find.specs.Furthest.{wanting_where};
 ghost use Rattle.ac_find.specs.Lacking.{lack_at};
+ghost use Rattle.ac_find.specs.Unheld.{unheld_where};
 ghost use Rattle.ac_find.specs.declared.furthest.Wanting.{Wanting};
 ghost use Rattle.ac_report.specs.Findings.HostRows.{asks_of, host_detail};
 ghost use Rattle.ac_report.specs.Findings.SlotDetails.{slot_detail};
@@ -17,7 +18,7 @@ use crate::findings::slot_details::slot_detail;
 use ac_base::NoMemory;
 use ac_cloud::Cloud;
 use ac_find::details::root_detail;
-use ac_find::{Lack, Wanting};
+use ac_find::{Lack, Unheld, Wanting, unheld_text};
 use ac_query::{Need, Query};
 use ac_rules::slots::{count_slots, needs_at};
 use std::alloc::Global;
@@ -70,7 +71,8 @@ fn wanting_detail(
     }
 }
 
-/// What is wanting in the slot that a root lacks a provider for, or which trait of the root is, by what is found there.
+/// What is wanting in the slot that a root lacks a provider for, or which trait of the root is, or what isn't held of what the group
+/// without a suffix requires, by what is found there.
 pub(super) fn host_detail(
     alloc: Global,
     cloud: &Cloud,
@@ -78,11 +80,14 @@ pub(super) fn host_detail(
     root: u32,
     lacks: Option<Lack>,
     wanting: Option<Wanting>,
+    unheld: Option<Unheld>,
 ) -> Result<String, NoMemory>
     requires root { root < length (providers_of cloud.now) }
     requires lacks { lacks ≡ lack_at (providers_of cloud.now) (asked_of query.now) root }
     requires wanting { wanting
         ≡ wanting_where (providers_of cloud.now) (asked_of query.now) root lacks }
+    requires unheld { unheld
+        ≡ unheld_where (providers_of cloud.now) (asked_of query.now) root lacks }
     ensures { IfOk result (λ text. string_bytes text
         ≡ host_detail (providers_of cloud.now) (asked_of query.now) root lacks) }
 {
@@ -91,6 +96,7 @@ pub(super) fn host_detail(
             wanting_detail(alloc, cloud, query, slot as usize - 1, wanting)
         }
         Some(Lack::RootTraits) => root_detail(alloc, &cloud.provider(root), query),
+        Some(Lack::RequiredTraits) => unheld_text(alloc, query, unheld),
         _ => Ok(String::new(alloc)),
     }
 }

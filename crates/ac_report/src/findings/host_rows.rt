@@ -7,6 +7,7 @@ ghost use Rattle.ac_query.specs.Shown.Queries.{asked_of};
 ghost use Rattle.ac_prune.specs.Fitting.{fits_at, fitting};
 ghost use Rattle.ac_find.specs.Furthest.{wanting_where};
 ghost use Rattle.ac_find.specs.Lacking.{lack_at, lacks_of};
+ghost use Rattle.ac_find.specs.Unheld.{unheld_where};
 ghost use Rattle.ac_report.specs.Findings.HostRows.{host_row, hosts_status, hosts_text, yes_or_no};
 
 use crate::findings::host_details::{asks_of, host_detail};
@@ -16,7 +17,7 @@ use crate::names::shown_name;
 use ac_base::NoMemory;
 use ac_base::rows::{begin_rows, end_rows, write_row};
 use ac_cloud::Cloud;
-use ac_find::{Lack, Wanting, find_wanting};
+use ac_find::{Lack, Unheld, Wanting, find_unheld, find_wanting};
 use ac_query::Query;
 use csv::Writer;
 use std::alloc::Global;
@@ -37,19 +38,22 @@ fn write_root(
     fits: bool,
     lacks: Option<Lack>,
     wanting: Option<Wanting>,
+    unheld: Option<Unheld>,
 ) -> Result<(), NoMemory>
     requires root { root < length (providers_of cloud.now) }
     requires fits { fits ≡ fits_at (providers_of cloud.now) (asked_of query.now) root }
     requires lacks { lacks ≡ lack_at (providers_of cloud.now) (asked_of query.now) root }
     requires wanting { wanting
         ≡ wanting_where (providers_of cloud.now) (asked_of query.now) root lacks }
+    requires unheld { unheld
+        ≡ unheld_where (providers_of cloud.now) (asked_of query.now) root lacks }
     ensures { IfOk result (λ _. (before : List (List (List ℕ))) → HasRows rows.old before
         → HasRows rows.new (before
         ++ host_row (providers_of cloud.now) (asked_of query.now) root ∷ [])) }
 {
     let name = shown_name(alloc, cloud.name(root))?;
     let asks = asks_of(alloc, query, lacks)?;
-    let detail = host_detail(alloc, cloud, query, root, lacks, wanting)?;
+    let detail = host_detail(alloc, cloud, query, root, lacks, wanting, unheld)?;
     write_row(
         rows,
         &[
@@ -81,6 +85,7 @@ pub fn hosts_text(
 {
     let roots = roots_within(alloc, cloud, within)?;
     let found = find_wanting(alloc, cloud, query, lacks)?;
+    let unheld = find_unheld(alloc, cloud, query, lacks)?;
     let mut rows = begin_rows(
         alloc,
         &[
@@ -90,7 +95,7 @@ pub fn hosts_text(
     for root in &roots {
         let at = *root as usize;
         write_root(
-            alloc, &mut rows, cloud, query, *root, fits[at], lacks[at], found[at],
+            alloc, &mut rows, cloud, query, *root, fits[at], lacks[at], found[at], unheld[at],
         )?;
     }
     end_rows(rows)

@@ -7,7 +7,11 @@ use Rattle.ac_find.specs.Furthest.{wanting, wanting_where}
 use Rattle.ac_find.specs.declared.furthest.Wanting.{Wanting}
 use Rattle.ac_find.specs.declared.lacks.Lack.{Lack}
 use Rattle.ac_find.specs.declared.lacks.Lack.TheVariants as lack
+use Rattle.ac_find.specs.Unheld.{unheld_text, unheld_where}
+use Rattle.ac_prune.proofs.Roots.RootLemmas.{if_ok}
+use Rattle.ac_find.proofs.UnheldLemmas.{words_told}
 use Rattle.ac_find.proofs.FurthestLemmas.{class_low, furthest_low, lack_numbers}
+use Rattle.ac_report.specs.Findings.HostRows.{host_detail}
 use Rattle.ac_report.proofs.findings.host_details.host_detail.Goals as goal
 
 pub overflow_sub-slot : goal.overflow_sub-slot
@@ -45,3 +49,12 @@ wanting_detail-requires-clause-class c = λ w k is place.
     let found : Some w ≡ Some (wanting all slot c.args.root) = sym is ∙ (c.requires.wanting ∙ ap (wanting_where all asked c.args.root) lacks) in
     let same : w ≡ wanting all slot c.args.root = ap (λ (o : Option Wanting). unwrap_or o w) found in
     class_low all c.args.root slot.needs k (sym (ap (λ (w : Wanting). w.class) same) ∙ place)
+
+pub returns-in-Some-RequiredTraits : goal.returns-in-Some-RequiredTraits
+returns-in-Some-RequiredTraits c =
+    let all = providers_of c.args.cloud.now in
+    let asked = asked_of c.args.query.now in
+    let inner : c.in-Some-RequiredTraits.field-0 ≡ lack.RequiredTraits = rw c.in-Some-RequiredTraits.is at c.in-Some-RequiredTraits.field-0-is in
+    let lacks = c.in-Some-RequiredTraits.is ∙ ap (λ (l : Lack). Some l) inner in
+    let unheld = c.requires.unheld ∙ ap (unheld_where all asked c.args.root) lacks in
+    if_ok _ _ c.unheld_text.result (λ _ is. is ∙ (ap (unheld_text asked) unheld ∙ (words_told all asked c.args.root ∙ sym (ap (host_detail all asked c.args.root) lacks)))) c.unheld_text.ensures

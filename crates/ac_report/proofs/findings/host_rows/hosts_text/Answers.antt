@@ -10,6 +10,7 @@ use Rattle.ac_query.specs.Shown.Queries.{asked_of}
 use Rattle.ac_prune.specs.Fitting.{fits_at}
 use Rattle.ac_find.specs.Furthest.{wanting_where}
 use Rattle.ac_find.specs.Lacking.{lack_at}
+use Rattle.ac_find.specs.Unheld.{unheld_where}
 use Rattle.ac_find.proofs.LackingLemmas.{at_place}
 use Rattle.ac_report.specs.Findings.HostRows.{host_columns, host_row, hosts_text}
 use Rattle.ac_report.proofs.findings.host_rows.hosts_text.Goals as goal
@@ -67,6 +68,26 @@ write_root-requires-clause-wanting c =
     let many : r < length c.in_ok-found.found.items = omega (arith, low, ap length c.in_ok-found.ensures ∙ length-map-range_with_len wanting 0 (length all)) in
     at_place wanting (length all) c.in_ok-found.found.items r c.index.result.now None low c.in_ok-found.ensures (get_or_read c.in_ok-found.found.items _ _ many c.index.ensures None)
     ∙ ap (wanting_where all asked r) (sym lacks)
+
+pub write_root-requires-clause-unheld : goal.write_root-requires-clause-unheld
+write_root-requires-clause-unheld c =
+    let all = providers_of c.args.cloud.now in
+    let asked = asked_of c.args.query.now in
+    let r = get_or c.deref-root-items.result.now c.loop-root.root-index 0 in
+    let low = root_low all c.in_ok-roots.roots.items c.deref-root-items.result.now c.loop-root.root-index c.deref-root-items.ensures.value c.in_ok-roots.ensures.below c.loop-root-test.true in
+    let unheld = λ (r : ℕ). unheld_where all asked r (lack_at all asked r) in
+    let lacks = at_place (lack_at all asked) (length all) c.args.lacks.now r (slice_index_or c.args.lacks.now r None) None low c.requires.lacks refl in
+    let many : r < length c.in_ok-unheld.unheld.items = omega (arith, low, ap length c.in_ok-unheld.ensures ∙ length-map-range_with_len unheld 0 (length all)) in
+    at_place unheld (length all) c.in_ok-unheld.unheld.items r c.index-in-loop-root.result.now None low c.in_ok-unheld.ensures (get_or_read c.in_ok-unheld.unheld.items _ _ many c.index-in-loop-root.ensures None)
+    ∙ ap (unheld_where all asked r) (sym lacks)
+
+pub index-requires-in-loop-root : goal.index-requires-in-loop-root
+index-requires-in-loop-root c =
+    let all = providers_of c.args.cloud.now in
+    let asked = asked_of c.args.query.now in
+    let low = root_low all c.in_ok-roots.roots.items c.deref-root-items.result.now c.loop-root.root-index c.deref-root-items.ensures.value c.in_ok-roots.ensures.below c.loop-root-test.true in
+    let many = ap length c.in_ok-unheld.ensures ∙ length-map-range_with_len (λ r. unheld_where all asked r (lack_at all asked r)) 0 (length all) in
+    omega (arith, many, low, c.in_ok-unheld.unheld.ok)
 
 pub loop-root-preserved : goal.loop-root-preserved
 loop-root-preserved c =

@@ -1,4 +1,4 @@
-use Rattle.std.proofs.Common.{◌∙◌, List, [], ◌∷◌, ℕ, ap, arith, map, rules, subst, sym}
+use Rattle.std.proofs.Common.{◌∙◌, List, ℕ, ap, arith, map, subst, sym}
 use Rattle.std.specs.List.Sorted.{IsStrictlySortedBy}
 use Rattle.std.specs.List.{list_all}
 use Rattle.std.proofs.lemmas.List.{take_all}
@@ -9,13 +9,8 @@ use Rattle.ac_query.specs.Shown.Queries.{asked_of}
 use Rattle.ac_cloud.specs.Cloud.CloudWorld.{providers_of}
 use Rattle.ac_find.specs.Explained.{is_held, is_one_held}
 use Rattle.ac_prune.proofs.Roots.RootLemmas.{if_ok}
-use Rattle.ac_find.proofs.RequiredLemmas.{held_alone, kept_all, kept_more, kept_same, kept_whole}
+use Rattle.ac_find.proofs.RequiredLemmas.{alone_rises, held_alone, kept_all, kept_more, kept_same, kept_whole}
 use Rattle.ac_find.proofs.counts.required.Unsuffixed.limit_each.Goals as goal
-
--- one name alone rises
-alone_rises : (name : TraitName) → IsStrictlySortedBy text_cmp (map trait_bytes (name ∷ []))
-unfolding IsStrictlySortedBy
-alone_rises name = search (arith, rules)
 
 pub limit_names-requires-clause-sorted : goal.limit_names-requires-clause-sorted
 limit_names-requires-clause-sorted c =
