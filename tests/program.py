@@ -389,6 +389,7 @@ GROWTHS = [
     growing('explain, no candidate', ['explain', FIVES], ONE),
     growing('hosts', ['hosts', DISK], SHARED),
     growing('hosts, no candidate', ['hosts', FIVES], ONE),
+    growing('hosts, a required trait', ['hosts', TWO + '&required=CUSTOM_A'], ONE),
     growing('why', ['why', DISK, 'P1'], SHARED),
     growing('why, with traits and aggregates', ['why', LACKING, 'P1'], ONE),
     growing('why, an unknown host', ['why', TWO, 'P7'], ONE),
