@@ -111,8 +111,9 @@ class Query:
         if self.told:
             pairs.append(('group_policy', 'isolate' if self.isolate else 'none'))
         drawn_pairs = chance.sample(pairs, len(pairs))
-        for suffix, group in self.groups.items():  # lists of traits stay in the order of their pairs
+        for suffix, group in self.groups.items():  # lists of traits and rules stay in the order of their pairs
             group.any_of.sort(key=lambda listed: drawn_pairs.index((f'required{suffix}', 'in:' + ','.join(listed))))
+            group.rules.sort(key=lambda rule: drawn_pairs.index((f'member_of{suffix}', '!' * rule[0] + 'in:' + ','.join(rule[1]))))
         return '&'.join(f'{name}={value}' for name, value in drawn_pairs)
 
 
@@ -214,7 +215,7 @@ def explanation(found, query, cloud):
         units, traits, aggregates, tree, room = map(len, left)
         fitting = left[3]
         by_class = [name_told for name in sorted(needs) for name_told in class_told(name, needs, fitting, room)]
-        told.append(f'slot {number} "{suffix}"{" " * bool(needs)}{asks(needs)}: units {units} of {len(cloud)}, traits {traits}, aggregates {aggregates}, '
+        told.append(f'{slot_named(number, suffix, needs)}: units {units} of {len(cloud)}, traits {traits}, aggregates {aggregates}, '
                     f'tree {tree}, room {room}' + (f' ({", ".join(by_class)})' if by_class else ''))
     roots = [root for root in cloud if root.root() is root]
     taken = [root for root in roots if takes(root, query)]
@@ -225,29 +226,80 @@ def explanation(found, query, cloud):
     told += nobody(query, cloud)
     told.append(f'candidates: {"some" if found else "none"}')
     if not found:
-        told += [f'{name}: {"some" if has_candidate(other, cloud) else "none"}' for name, other in without(query)]
-        told.append(f'because {reason(query, cloud, taken, whole, held)}')
+        kept = [(name, has_candidate(other, cloud)) for name, other in without(query)]
+        told += [f'{name}: {"some" if some else "none"}' for name, some in kept]
+        told.append(f'because {reason(query, cloud, taken, whole, (held, kept))}')
     told += difference_lines(found, query, cloud)
     return ''.join(line + '\n' for line in told)
 
 
-FAILING = 'gives it', 'has its traits', 'is in its aggregates', 'is in its tree', 'has room for it'
+def more_of(names):
+    return f' and {len(names) - 8} more' if len(names) > 8 else ''
 
 
-def reason(query, cloud, taken, whole, held):
-    """Why there is no candidate: the first slot that no provider serves, and by which condition; else which roots are none."""
+def some_of(names):
+    """A list, of which eight are told."""
+    return ','.join(names[:8]) + more_of(names)
+
+
+def trait_rules(suffix, group):
+    """What a group asks of the traits of a slot's provider."""
+    if suffix and group.required:
+        yield f'required={some_of(sorted(group.required))}'
+    if suffix:
+        yield from (f'required=in:{some_of(sorted(listed))}' for listed in group.any_of)
+    if group.forbidden:
+        yield ' '.join(f'required=!{name}' for name in sorted(group.forbidden)[:8]) + more_of(group.forbidden)
+
+
+def aggregate_rules(_, group):
+    for forbids, aggregates in group.rules:
+        yield f'member_of={"!" * forbids}{"in:" * (len(aggregates) > 1)}{some_of(aggregates)}'
+
+
+def tree_rule(_, group):
+    yield f'in_tree={group.tree}'
+
+
+def meeting(rules):
+    return lambda suffix, group: ' '.join(['meets', *rules(suffix, group)])
+
+
+FAILING = (lambda *_: 'gives it'), meeting(trait_rules), meeting(aggregate_rules), meeting(tree_rule), (lambda *_: 'has room for it')
+
+
+def slot_named(number, suffix, needs):
+    return f'slot {number} "{suffix}"{" " * bool(needs)}{asks(needs)}'
+
+
+def reason(query, cloud, taken, whole, ways):
+    """Why there is no candidate: the first slot that no provider serves, and by which condition; else which roots are none; else what alone keeps them apart."""
+    held, kept = ways
+    slots, roots = [], []
     for number, (suffix, needs) in enumerate(query.slots(), 1):
-        before = cloud
+        name, before = slot_named(number, suffix, needs), cloud
         for left, failing in zip(serving(suffix, needs, query, cloud), FAILING, strict=True):
             if not left:
-                asked = ','.join(f'{name}:{needs[name]}' for name in sorted(needs))
-                return f'slot {number} "{suffix}"{" " * bool(needs)}{asked}: none of {len(before)} {failing}'
+                return f'{name}: none of {len(before)} {failing(suffix, query.groups[suffix])}'
             before = left
+        slots.append(name)
+        roots.append([root for root in taken if any(available(provider, root, cloud) for provider in left)])
     if not taken:
         return 'no root has the traits that are asked of it'
     if not whole:
+        for later, near in enumerate(roots):
+            if not near:
+                return f'no root has a provider for {slots[later]}'
+            for earlier, others in enumerate(roots[:later]):
+                if not any(root in others for root in near):
+                    return f'no root has a provider for {slots[earlier]} and {slots[later]}'
         return 'no root has a provider for each slot'
-    return 'no providers for the slots go together' if held else 'no root has all required traits'
+    if not held:
+        return 'no root has all required traits'
+    return 'no providers for the slots go together' + next((KEPT.get(name, name.replace('without', ' with', 1)) for name, some in kept if some), '')
+
+
+KEPT = {'with group_policy=none': ' with group_policy=isolate', 'without required': ' with all required traits'}
 
 
 def has_candidate(query, cloud):

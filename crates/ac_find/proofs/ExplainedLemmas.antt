@@ -96,23 +96,38 @@ reaches test rooms (p ∷ hosts) n low is =
     let more = reaches test rooms hosts n low.1 is in
     grind (arith, nat_tests)
 
+-- those of the marked roots that have a provider for a slot
+served_at : (all : List Provider) (slot : Slot) (before : ℕ → Bool) (rooms : List ℕ) (old new : List Bool) → rooms ≡ served all slot
+    → old ≡ map before (range_with_len 0 (length all)) → AreLimited all rooms 1 old new → (r : ℕ) → r < length all
+    → slice_index_or new r false ≡ (before r && is_served all r slot)
+served_at all slot before rooms old new room was limited r low =
+    let n = length all in
+    let meets = λ (p : ℕ). meets_room all (in_slot slot p) in
+    let here : slice_index_or old r false ≡ before r = ap (λ (bs : List Bool). slice_index_or bs r false) was ∙ get_or-map-range_with_len before 0 n r r false low (omega arith) in
+    let room_at : (p : ℕ) → p < n → slice_index rooms p ≡ (if meets p then 1 else 0) =
+    λ p k. ap (λ (xs : List ℕ). slice_index xs p) room ∙ get_or-map-range_with_len (λ (p : ℕ). if meets p then 1 else 0) 0 n p p 0 k (omega arith) in
+    let served_here : nat_le 1 (load_of (λ p. slice_index rooms p) (hosts_of all r)) ≡ is_served all r slot = reaches meets rooms (hosts_of all r) n (hosts_low all r) room_at in
+    limited r low ∙ rw (here, served_here) (grind arith)
+
+pub served_one : (all : List Provider) (slot : Slot) (before : ℕ → Bool) (rooms : List ℕ) (old new : List Bool) → rooms ≡ served all slot
+    → old ≡ map before (range_with_len 0 (length all)) → length new ≡ length old → AreLimited all rooms 1 old new
+    → new ≡ map (λ r. before r && is_served all r slot) (range_with_len 0 (length all))
+served_one all slot before rooms old new room was size limited =
+    let n = length all in
+    fill_by_all (λ r. before r && is_served all r slot) new n false (size ∙ (ap length was ∙ length-map-range_with_len before 0 n))
+    (served_at all slot before rooms old new room was limited)
+
 -- one more slot
 pub served_more : (all : List Provider) (asked : Asked) (s : ℕ) (rooms : List ℕ) (old new : List Bool) → s < length (slots_of asked) → rooms ≡ served all (slot_at asked s)
     → old ≡ served_roots all asked (take s (slots_of asked)) → length new ≡ length old → AreLimited all rooms 1 old new → new ≡ served_roots all asked (take (s + 1) (slots_of asked))
 served_more all asked s rooms old new h room was size limited =
     let n = length all in
     let slot = slot_at asked s in
-    let meets = λ (p : ℕ). meets_room all (in_slot slot p) in
     let before = λ (r : ℕ). takes_root all asked r && list_all (λ slot. is_served all r slot) (take s (slots_of asked)) in
     let after = λ (r : ℕ). takes_root all asked r && list_all (λ slot. is_served all r slot) (take (s + 1) (slots_of asked)) in
-    let many : length new ≡ n = size ∙ (ap length was ∙ length-map-range_with_len before 0 n) in
-    fill_by_all after new n false many (λ r low.
-    let here : slice_index_or old r false ≡ before r = ap (λ (bs : List Bool). slice_index_or bs r false) was ∙ get_or-map-range_with_len before 0 n r r false low (omega arith) in
-    let room_at : (p : ℕ) → p < n → slice_index rooms p ≡ (if meets p then 1 else 0) =
-    λ p k. ap (λ (xs : List ℕ). slice_index xs p) room ∙ get_or-map-range_with_len (λ (p : ℕ). if meets p then 1 else 0) 0 n p p 0 k (omega arith) in
-    let served_here : nat_le 1 (load_of (λ p. slice_index rooms p) (hosts_of all r)) ≡ is_served all r slot = reaches meets rooms (hosts_of all r) n (hosts_low all r) room_at in
+    fill_by_all after new n false (size ∙ (ap length was ∙ length-map-range_with_len before 0 n)) (λ r low.
     let more = list_all_more (λ slot. is_served all r slot) (slots_of asked) s no_slot h in
-    limited r low ∙ rw (here, served_here, more) (grind arith))
+    served_at all slot before rooms old new room was limited r low ∙ rw more (grind arith))
 
 -- where no slot is asked, the roots that the query takes
 pub served_none : (all : List Provider) (asked : Asked) (rs : List ℕ) → map (takes_root all asked) rs ≡ map (λ r. takes_root all asked r && true) rs

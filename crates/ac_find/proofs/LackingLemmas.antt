@@ -134,7 +134,7 @@ behind_reached all slot ranks r low small are =
     let reached = λ (k : ℕ) (few : k < 6). tests_reached all slot r (slice_index ranks r) small (λ k. are k r low) k few in
     rw (reached 0 (omega arith), reached 1 (omega arith), reached 2 (omega arith), reached 3 (omega arith), reached 4 (omega arith), reached 5 (omega arith)) refl
 
-or_or : (a b c : Option Lack) → option_or (option_or a b) c ≡ option_or a (option_or b c)
+pub or_or : {X : Type 0} (a b c : Option X) → option_or (option_or a b) c ≡ option_or a (option_or b c)
 or_or None b c = refl
 or_or (Some x) b c = refl
 

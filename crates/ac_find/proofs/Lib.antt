@@ -11,3 +11,4 @@ pub mod MarkLemmas
 pub mod CountLaws
 pub mod NobodyLaws
 pub mod UnheldLemmas
+pub mod ApartLemmas

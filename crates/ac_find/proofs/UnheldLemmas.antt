@@ -8,6 +8,7 @@ use Rattle.std.proofs.lemmas.Iterator.Adapters.{position_from-zero}
 use Rattle.std.proofs.lemmas.List.Quantifiers.{position-Some}
 use Rattle.ac_query.specs.Asked.{Asked, Group}
 use Rattle.ac_cloud.specs.World.{Provider}
+use Rattle.ac_find.proofs.LackingLemmas.{or_or}
 use Rattle.ac_find.specs.Details.{missing_text, none_of_text}
 use Rattle.ac_find.specs.Explained.{is_held, is_one_held}
 use Rattle.ac_find.specs.Unheld.{unheld_at, unheld_detail, unheld_group_detail, unheld_group_text, unheld_of_group, unheld_text, unheld_where, unsuffixed_group}
@@ -54,23 +55,8 @@ first_whole tag t xs k =
 
 -- ---- What is told of roots
 
-or_or : (a b c : Option Unheld) → option_or (option_or a b) c ≡ option_or a (option_or b c)
-or_or None b c = refl
-or_or (Some x) b c = refl
-
-or_none : (a : Option Unheld) → option_or a None ≡ a
-or_none None = refl
-or_none (Some x) = refl
-
-more_none : (l : Option Lack) (o : Option Unheld) → told_more l o None ≡ o
-more_none l o = elim (cases_Bool (lacks_traits l)) [ inl e ↦ rw e (or_none o) | inr e ↦ rw e refl ]
-
 more_both : (l : Option Lack) (o a b : Option Unheld) → told_more l (told_more l o a) b ≡ told_more l o (option_or a b)
 more_both l o a b = elim (cases_Bool (lacks_traits l)) [ inl e ↦ rw e (or_or o a b) | inr e ↦ rw e refl ]
-
--- nothing more
-pub told_none : (all : List Provider) (lacks : List (Option Lack)) (old : List (Option Unheld)) → AreTold all (λ r. None) lacks old old
-told_none all lacks old r low = sym (more_none (slice_index_or lacks r None) (slice_index_or old r None))
 
 -- one thing, and then another
 pub told_both : (all : List Provider) (f g h : ℕ → Option Unheld) (lacks : List (Option Lack)) (old mid new : List (Option Unheld)) → ((r : ℕ) → option_or (f r) (g r) ≡ h r)

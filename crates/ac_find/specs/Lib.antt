@@ -1,3 +1,4 @@
+pub mod Apart
 pub mod Broken
 pub mod Details
 pub mod Missing

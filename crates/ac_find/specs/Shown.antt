@@ -1,4 +1,5 @@
 -- What counts and lacks show.
+pub mod Apart
 pub mod Explained
 pub mod Lacking
 pub mod Furthest

@@ -12,6 +12,7 @@ ghost use Rattle.ac_prune.specs.QuerySearch.{has_room_alone};
 ghost use Rattle.ac_rules.specs.Shown.Assignments.{placed_of};
 ghost use Rattle.ac_find.specs.Shown.Explained.{marked, served, served_roots, slot_counted, trees_counted};
 
+mod apart;
 mod classes;
 pub(crate) mod required;
 
@@ -23,6 +24,7 @@ use ac_query::Query;
 use ac_rules::Placed;
 use ac_rules::rules::sums::has_room_of;
 use ac_rules::slots::count_slots;
+pub use apart::first_apart;
 pub use classes::{SlotTold, all_slots};
 use required::limit_required;
 pub use required::requires_some;

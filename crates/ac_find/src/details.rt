@@ -133,7 +133,7 @@ pub fn room_detail(alloc: Global, placed: &Placed) -> Result<String, NoMemory>
 }
 
 /// The first items of a list, which are told; of further ones it is told how many there are.
-pub(crate) fn told<X>(items: &[X]) -> &[X]
+pub fn told<X>(items: &[X]) -> &[X]
     ensures { result.now ≡ take 8 items.now }
 {
     if items.len() > 8 { &items[..8] } else { items }

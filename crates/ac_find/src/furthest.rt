@@ -204,7 +204,8 @@ fn find_of_slot(
 
 // Nothing is noted yet.
 fn nothing_noted(alloc: Global, cloud: &Cloud) -> Result<Vec<Option<Wanting>>, NoMemory>
-    ensures { IfOk result (λ found. found.items ≡ replicate (length (providers_of cloud.now)) None) }
+    ensures { IfOk result (λ found.
+        found.items ≡ replicate (length (providers_of cloud.now)) None) }
 {
     Ok(vec![in alloc; None; cloud.len() as usize]?)
 }

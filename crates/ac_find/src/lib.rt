@@ -16,7 +16,8 @@ mod unheld;
 
 pub use broken::broken_detail;
 pub use counts::{
-    SlotCounts, SlotTold, TreeCounts, all_slots, requires_some, slot_counts, tree_counts,
+    SlotCounts, SlotTold, TreeCounts, all_slots, first_apart, requires_some, slot_counts,
+    tree_counts,
 };
 pub use furthest::{Wanting, find_wanting};
 pub use inventories::{has_inventory, somebody_there_has_class};

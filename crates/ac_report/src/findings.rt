@@ -12,7 +12,8 @@ mod why_rows;
 mod within;
 
 pub use explanation::{
-    FoundWithout, Told, differences_text, explanation_status, find_without, has_candidate,
+    FoundWithout, Told, differences_text, explanation_status, find_apart, find_without,
+    has_candidate,
 };
 pub use host_rows::{hosts_status, hosts_text};
 pub use host_sums::sums_text;

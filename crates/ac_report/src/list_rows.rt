@@ -113,8 +113,8 @@ fn write_blocks<S: Source, W: Sink>(
     ensures reads { Reads (asked_of query.now).limit 0 result (S.left source.old)
         (S.left source.new) }
     ensures writes { WritesEach W.taken W.failures (S.may_stop source.old) out.old out.new result
-        (λ text. text) (blocks (shown_providers traits (providers_of cloud.now)) (asked_of query.now) 1
-        (cut (asked_of query.now).limit (S.left source.old))) }
+        (λ text. text) (blocks (shown_providers traits (providers_of cloud.now))
+        (asked_of query.now) 1 (cut (asked_of query.now).limit (S.left source.old))) }
 {
     let mut wanted = query.limit();
     let mut count: u32 = 0;

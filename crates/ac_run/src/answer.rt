@@ -27,7 +27,7 @@ use ac_base::{NoMemory, Sink};
 use ac_find::{Lack, all_slots, broken_detail, find_lacks, tree_counts};
 use ac_query::{Query, Token};
 use ac_report::findings::{
-    Question, Told, differences_text, explanation_status, find_without, has_candidate,
+    Question, Told, differences_text, explanation_status, find_apart, find_without, has_candidate,
     hosts_status, hosts_text, root_place, sums_text, why_at,
 };
 use ac_report::{PageFault, write_list, write_shown_page, write_tokens};
@@ -150,8 +150,8 @@ fn write_broken<W: Sink>(
     out: &mut W,
 ) -> Result<u8, PageFault>
     ensures { Delivers (written (detailed_text (providers_of assignment.now.cloud.now)
-        (asked_of assignment.now.query.now) assignment.now.list.now (Verdict.Broken rule)) 1) ⊥ result
-        (W.taken out.old) (W.taken out.new) (W.failures out.old) (W.failures out.new) }
+        (asked_of assignment.now.query.now) assignment.now.list.now (Verdict.Broken rule)) 1) ⊥
+        result (W.taken out.old) (W.taken out.new) (W.failures out.old) (W.failures out.new) }
 {
     let detail = broken_detail(alloc, assignment, rule)?;
     let line = detailed_line(alloc, rule, &detail)?;
@@ -240,12 +240,14 @@ fn write_explanation<W: Sink>(
     let trees = tree_counts(alloc, cloud, query)?;
     let found = has_candidate(alloc, cloud, query, &trees, tries)?;
     let without = find_without(alloc, cloud, question, &trees, found, tries)?;
+    let apart = find_apart(alloc, cloud, query, &trees)?;
     let differences = differences_text(alloc, cloud, query, found)?;
     let told = Told {
         cloud,
         query,
         slots: &slots,
         trees: &trees,
+        apart,
         found,
         differences: &differences,
     };

@@ -77,7 +77,8 @@ pub fn run<R: Feed, W: Sink, E: Sink>(
         → IsAnswered (answer (task_of job.now) b) (W.taken out.old) (W.taken out.new)
         (E.taken err.old) (E.taken err.new) result }
     ensures tables { result ≡ 3 → (failed : Option Table)
-        × FailsOr (λ t. IsUnread (FeedRose R.failures inputs.old inputs.new t) (task_of job.now).detail t
+        × FailsOr (λ t. IsUnread (FeedRose R.failures inputs.old inputs.new t)
+        (task_of job.now).detail t
         (E.taken err.old) (E.taken err.new) (E.failures err.old) (E.failures err.new))
         ((b : Bytes) → TellBytes R.remaining inputs.old b
         → IsRefused (answer (task_of job.now) b) (E.taken err.old) (E.taken err.new)

@@ -60,8 +60,8 @@ impl Wide {
         groves: &Groves,
     ) -> Result<Option<Wide>, NoMemory>
         requires { AreGroves (root_lists_of choices.now.ledger.now.cloud.now) groves.now }
-        ensures { IfOk result (λ wide. IfSome wide (AllMeetInGroves (providers_in choices.now.ledger.now)
-            (asked_in choices.now.ledger.now))) }
+        ensures { IfOk result (λ wide. IfSome wide (AllMeetInGroves
+            (providers_in choices.now.ledger.now) (asked_in choices.now.ledger.now))) }
     {
         let ledger = choices.ledger;
         let count = count_slots(ledger.query);

@@ -4,26 +4,28 @@
 mod because;
 mod differences;
 mod nobody;
+mod slot_rules;
 mod without;
 
-ghost use Rattle.std.specs.Prelude.{◌≡◌, ◌+◌, ◌<◌, ◌≤◌, ◌++◌, Err, IfOk, None, codes, length, map};
+ghost use Rattle.std.specs.Prelude.{◌≡◌, ◌+◌, ◌<◌, ◌≤◌, ◌++◌, Err, IfOk, None, length, map};
 ghost use Rattle.ac_cloud.specs.Cloud.CloudWorld.{providers_of};
 ghost use Rattle.ac_query.specs.Asked.{slots_of};
 ghost use Rattle.ac_query.specs.Shown.Groups.{need_entry};
 ghost use Rattle.ac_query.specs.Shown.Queries.{asked_of};
+ghost use Rattle.ac_find.specs.Apart.{AreSlots};
 ghost use Rattle.ac_find.specs.Explained.{slot_told, tree_counts};
 ghost use Rattle.ac_find.specs.Shown.Explained.{slot_counted as counts_shown, slot_shown, trees_counted as trees_shown};
 ghost use Rattle.ac_rules.specs.Placed.{slot_at};
-ghost use Rattle.ac_report.specs.Findings.Asks.{needs_text};
-ghost use Rattle.ac_report.specs.Findings.Explanation.{because_line, class_text, classes_text, explanation_status, left_at, left_mark, left_text, room_at, room_mark, room_text, slot_counted, slot_end, slot_line, slot_lines, slot_name, told_text, trees_line};
-ghost use Rattle.ac_report.specs.Findings.Explanation.Candidates.{candidates_line, has_candidate, without_lines};
+ghost use Rattle.ac_report.specs.Findings.Explanation.{apart_told, because_line, class_text, classes_text, explanation_status, left_at, left_mark, left_text, room_at, room_mark, room_text, slot_asked, slot_counted, slot_end, slot_line, slot_lines, slot_name, told_text, trees_line};
+ghost use Rattle.ac_report.specs.Findings.Explanation.Candidates.{candidates_line, found_without, has_candidate, without_lines};
 ghost use Rattle.ac_report.specs.Findings.Explanation.Differing.{differs_lines};
-ghost use Rattle.ac_report.specs.Findings.Explanation.Nobody.{nobody_lines};
 ghost use Rattle.ac_report.specs.Findings.Explanation.Shown.{found_shown};
 ghost use Rattle.ac_base.specs.Writing.{Pushes};
 ghost use Rattle.ac_search.specs.Shown.Walk.{MayStop};
 ghost use Rattle.ac_search.specs.declared.fault.SearchFault.TheVariants as fault;
+ghost use Rattle.std.proofs.Props.{props};
 
+pub use self::because::find_apart;
 use self::because::push_because;
 pub use self::differences::differences_text;
 use self::nobody::push_missing;
@@ -43,16 +45,17 @@ use ac_search::{SearchFault, Walk};
 use itoa::Buffer;
 use std::alloc::Global;
 
-// A slot by its number and the suffix of its group.
+// A slot by its number and the suffix of its group, behind a mark.
 #[tactic(auto, unfolding(crate::specs::Findings::Explanation::slot_name))]
-fn push_name<W: Sink>(out: &mut W, query: &Query, s: usize) -> Result<(), WriteFailed>
+fn push_name<W: Sink>(out: &mut W, mark: &[u8], query: &Query, s: usize) -> Result<(), WriteFailed>
     requires { s < length (slots_of (asked_of query.now)) }
     ensures { Pushes W.taken W.failures out.old out.new result
-        (slot_name (s + 1) (slot_at (asked_of query.now) s)) }
+        (slot_name mark.now (s + 1) (slot_at (asked_of query.now) s)) }
 {
     push_pieces(
         out,
         &[
+            mark,
             b"slot ",
             Digits::of(s as u32 + 1).as_bytes(),
             b" \"",
@@ -189,15 +192,14 @@ fn push_counts<W: Sink>(out: &mut W, providers: u32, counts: &SlotCounts) -> Res
     )
 }
 
-// A slot and what it asks.
+// A slot and what it asks, behind a mark.
 #[tactic(auto, using(ac_base::proofs::Leaving::behind))]
-fn push_asked<W: Sink>(out: &mut W, query: &Query, s: usize) -> Result<(), WriteFailed>
+fn push_asked<W: Sink>(out: &mut W, mark: &[u8], query: &Query, s: usize) -> Result<(), WriteFailed>
     requires { s < length (slots_of (asked_of query.now)) }
     ensures { Pushes W.taken W.failures out.old out.new result
-        (slot_name (s + 1) (slot_at (asked_of query.now) s)
-        ++ needs_text (codes " ") (slot_at (asked_of query.now) s).needs) }
+        (slot_asked mark.now (s + 1) (slot_at (asked_of query.now) s)) }
 {
-    push_name(out, query, s)?;
+    push_name(out, mark, query, s)?;
     push_needs(out, b" ", needs_at(query, s))
 }
 
@@ -233,7 +235,7 @@ fn push_slot<W: Sink>(
         (slot_line (providers_of cloud.now) (s + 1) (slot_at (asked_of query.now) s)
         (slot_shown told.now)) }
 {
-    push_asked(out, query, s)?;
+    push_asked(out, b"", query, s)?;
     push_told(out, cloud.len(), needs_at(query, s), told)
 }
 
@@ -296,18 +298,26 @@ pub struct Told<'a> {
     pub query: &'a Query,
     pub slots: &'a [SlotTold],
     pub trees: &'a TreeCounts,
+    /// The first slot that no root serves, or the first two that none serves together, where none serves each slot.
+    pub apart: Option<(usize, usize)>,
     pub found: bool,
     /// Where the service may answer otherwise.
     pub differences: &'a [u8],
     ghost slots_told: { map slot_shown slots.now ≡ map (slot_told (providers_of cloud.now)) (slots_of (asked_of query.now)) },
     ghost trees_told: { trees_shown trees.now ≡ tree_counts (providers_of cloud.now) (asked_of query.now) },
+    ghost apart_told: { apart ≡ apart_told (providers_of cloud.now) (asked_of query.now) },
+    ghost apart_inside: { AreSlots (asked_of query.now) apart } by { Prim.hlevel props },
     ghost differences_told: { differences.now ≡ differs_lines (providers_of cloud.now) (asked_of query.now) found },
 }
 
 impl<'a> Told<'a> {
     // Why there is no candidate, where there is none.
     #[tactic(auto, unfolding(crate::specs::Findings::Explanation::because_line))]
-    fn push_because<W: Sink>(&self, out: &mut W) -> Result<(), WriteFailed>
+    fn push_because<W: Sink>(&self, out: &mut W, without: &FoundWithout) -> Result<(), WriteFailed>
+        requires few { length (found_shown without.now).subtrees
+            ≤ length (asked_of self.now.query.now).subtrees }
+        requires found { found_shown without.now ≡ found_without
+            (providers_of self.now.cloud.now) (asked_of self.now.query.now) self.now.found }
         ensures { Pushes W.taken W.failures out.old out.new result
             (because_line (providers_of self.now.cloud.now) (asked_of self.now.query.now)
             self.now.found) }
@@ -315,7 +325,7 @@ impl<'a> Told<'a> {
         if self.found {
             return Ok(());
         }
-        push_because(out, self.cloud, self.query, self.slots, self.trees)
+        push_because(out, self, without)
     }
 
     /// Pushes what stands behind the counts: whether there is a candidate without one thing, why there is none, and where the service may answer
@@ -326,8 +336,10 @@ impl<'a> Told<'a> {
         out: &mut W,
         without: &FoundWithout,
     ) -> Result<(), WriteFailed>
-        requires { length (found_shown without.now).subtrees
+        requires few { length (found_shown without.now).subtrees
             ≤ length (asked_of self.now.query.now).subtrees }
+        requires found { found_shown without.now ≡ found_without
+            (providers_of self.now.cloud.now) (asked_of self.now.query.now) self.now.found }
         ensures { Pushes W.taken W.failures out.old out.new result
             (without_lines (asked_of self.now.query.now) (found_shown without.now)
             ++ (because_line (providers_of self.now.cloud.now) (asked_of self.now.query.now)
@@ -336,7 +348,7 @@ impl<'a> Told<'a> {
             self.now.found)) }
     {
         push_without(out, self.query, without)?;
-        self.push_because(out)?;
+        self.push_because(out, without)?;
         push_all(out, self.differences)
     }
 

@@ -147,8 +147,8 @@ pub(crate) fn read_table<T: Record>(
         first_failing (table_checks T.TABLE (names_needed T.TABLE) T.says (T.checks beside.now)
         (records_of text.now)) ≡ None) }
     ensures fault { IfErr result (λ e.
-        Tells (first_failing (table_checks T.TABLE (names_needed T.TABLE) T.says (T.checks beside.now)
-        (records_of text.now))) e) }
+        Tells (first_failing (table_checks T.TABLE (names_needed T.TABLE) T.says
+        (T.checks beside.now) (records_of text.now))) e) }
 {
     let mut header = ByteRecord::new(alloc);
     let mut reader = open_table(alloc, T::TABLE, text, &mut header)?;

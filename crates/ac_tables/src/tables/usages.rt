@@ -133,7 +133,8 @@ pub(crate) fn read_usages(
 ) -> Result<ProviderRows<ClassName, u32>, TableFault>
     requires { IfSome text (λ t. length t.now ≤ most_bytes) }
     ensures value { IfOk result (λ used. map (map class_pair) (own_rows used)
-        ≡ map (amounts_of (usages_said (rows_given table.Usages text.entry))) inventories.now.ids.ids.items) }
+        ≡ map (amounts_of (usages_said (rows_given table.Usages text.entry)))
+        inventories.now.ids.ids.items) }
     ensures count { IfOk result (λ used. length used.rows.items
         ≡ length (usages_said (rows_given table.Usages text.entry))) }
     ensures length { IfOk result (λ used.
@@ -145,8 +146,8 @@ pub(crate) fn read_usages(
         (rows_given table.Usages text.entry) ≡ None) }
     ensures err { IfErr result (λ e. (records : List InventoryRecord)
         → IsPermutation records (inventory_records_shown inventories.now.ids.ids.items
-        inventories.now.rows.rows.items) → Tells
-        (usages_fault inventories.now.ids.ids.items records (rows_given table.Usages text.entry)) e) }
+        inventories.now.rows.rows.items) → Tells (usages_fault inventories.now.ids.ids.items
+        records (rows_given table.Usages text.entry)) e) }
 {
     let rows = read_given::<UsageTable>(alloc, inventories, text)?;
     Ok(ProviderRows::new(alloc, inventories.ids.len(), rows)?)

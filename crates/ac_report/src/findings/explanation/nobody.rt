@@ -137,7 +137,11 @@ fn push_traits<W: Sink>(
 
 // Traits: the first behind a mark, each further one behind a comma.
 #[tactic(auto, using(crate::proofs::FoundTexts::ItemsWritten::item_turn, crate::proofs::FoundTexts::ItemsWritten::listed_part, crate::proofs::FoundTexts::ItemsWritten::listed_written))]
-fn push_names<W: Sink>(out: &mut W, mark: &[u8], names: &[TraitName]) -> Result<(), WriteFailed>
+pub(super) fn push_names<W: Sink>(
+    out: &mut W,
+    mark: &[u8],
+    names: &[TraitName],
+) -> Result<(), WriteFailed>
     ensures { Pushes W.taken W.failures out.old out.new result
         (listed mark.now (map trait_bytes names.now)) }
 {
@@ -186,7 +190,7 @@ fn push_lists<W: Sink>(out: &mut W, cloud: &Cloud, lists: &[AnyOf]) -> Result<()
 
 // UUIDs: the first behind a mark, each further one behind a comma.
 #[tactic(auto, using(crate::proofs::FoundTexts::ItemsWritten::item_turn, crate::proofs::FoundTexts::ItemsWritten::listed_part, crate::proofs::FoundTexts::ItemsWritten::listed_written))]
-fn push_ids<W: Sink>(out: &mut W, mark: &[u8], ids: &[Id]) -> Result<(), WriteFailed>
+pub(super) fn push_ids<W: Sink>(out: &mut W, mark: &[u8], ids: &[Id]) -> Result<(), WriteFailed>
     ensures { Pushes W.taken W.failures out.old out.new result
         (listed mark.now (map id_text ids.now)) }
 {

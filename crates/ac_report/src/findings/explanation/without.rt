@@ -28,9 +28,9 @@ use std::collections::BTreeSet;
 /// where that is asked.
 #[derive(Drop)]
 pub struct FoundWithout {
-    subtrees: Vec<bool>,
-    policy: Option<bool>,
-    required: Option<bool>,
+    pub(super) subtrees: Vec<bool>,
+    pub(super) policy: Option<bool>,
+    pub(super) required: Option<bool>,
 }
 
 // Whether a query has a candidate.
@@ -202,7 +202,7 @@ pub fn find_without(
 
 // Suffixes: the first behind a mark, each further one behind a comma.
 #[tactic(auto, using(crate::proofs::FoundTexts::ItemsWritten::listed_part, crate::proofs::FoundTexts::ItemsWritten::listed_written))]
-fn push_suffixes<W: Sink>(
+pub(super) fn push_suffixes<W: Sink>(
     out: &mut W,
     mark: &[u8],
     suffixes: &BTreeSet<Suffix>,

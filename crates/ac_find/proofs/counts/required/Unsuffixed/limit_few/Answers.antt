@@ -1,4 +1,4 @@
-use Rattle.std.proofs.Common.{◌≡◌, ◌∙◌, ◌&&◌, false, List, Bool, ℕ, ap, arith, length, map, slice_index_or}
+use Rattle.std.proofs.Common.{◌∙◌, ◌&&◌, false, List, Bool, ℕ, ap, arith, length, map, slice_index_or}
 use Rattle.std.proofs.lemmas.List.FromFn.{get_or-map-range_with_len, length-map-range_with_len}
 use Rattle.ac_base.specs.Names.{trait_bytes}
 use Rattle.ac_query.specs.Shown.Queries.{asked_of}
