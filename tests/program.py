@@ -248,6 +248,11 @@ def by_folder(*words, status=0):
     return Case(f'a folder: {words[0]}, as by the five options', [*words, '--tables', CLOUD], lambda: run(Case('', [*words, *EACH_TABLE]))[0], status=status)
 
 
+DRIVER = [
+    Case('clients/python: the examples of the driver', ['sh', '-c', 'AC_CLI="$1" exec python3 -B -m doctest clients/python/ac_session.py', 'driver', PROGRAM]),
+    Case('clients/python: its tests', ['sh', '-c', 'exec python3 clients/python/test_ac_session.py "$1"', 'driver', PROGRAM]),
+]
+
 FOLDERS = [
     by_folder('check'),
     by_folder('candidates', DISK_AND_HOST),
@@ -562,7 +567,7 @@ def main(*given):
         pages += [*releases(lines('P1')), *shown('README.md', launcher=os.path.join(clone(), 'ac_cli'))]
     chance = [*drawn(150), *drawn_tables(200), *drawn_queries(200)]
     linked = STATIC if os.path.isfile(os.path.join(ROOT, 'out', 'ac_cli.o')) and 'AC_CLI' not in os.environ else []
-    cases = [PAGES, CRATES, DRAWING, *linked, *HELP, *WORDS, *FILES, *FOLDERS, *DETAILS, *second_lines(), *PASTED, *DEVICES, *GROWTHS, KNOWN, *REFUSALS, *SMALL, *pages, remade('examples/private/README.md'),
+    cases = [PAGES, CRATES, DRAWING, *linked, *HELP, *WORDS, *FILES, *FOLDERS, *DRIVER, *DETAILS, *second_lines(), *PASTED, *DEVICES, *GROWTHS, KNOWN, *REFUSALS, *SMALL, *pages, remade('examples/private/README.md'),
              *rules, *examples(), *concerned(), *exports(), *database_exports(), *sessions(PROGRAM), *chance, *LARGE, *hostile(PROGRAM), *cliffs(PROGRAM), *tries(PROGRAM), FEW_BYTES, *cuts()]
     cases = [case for case in cases if all(word in case.name for word in words)]
     failed = 0

@@ -1,0 +1,254 @@
+"""Asks a session of ac_cli: which resource providers could host a workload, over tables that are read once.
+
+    with Session('examples/cloud') as session:
+        placed = session.place('resources=VCPU:2')
+
+A driver in one file, for Python 3.8 or later, of the standard library alone. `ac_cli` is the program on the path, or what AC_CLI names. Each question waits for
+its answer, so a pipe never fills up; `many` asks without waiting. What a session is asked, and what it answers, is in docs/REFERENCE.md, 'A session'."""
+from __future__ import annotations
+
+import csv
+import json
+import os
+import queue
+import re
+import subprocess
+import tempfile
+import threading
+from typing import Dict, Iterable, Iterator, List, NamedTuple, Optional, Sequence, Tuple
+
+__all__ = ['Answer', 'Count', 'Ended', 'Host', 'Placement', 'Refused', 'Session']
+
+
+class Refused(Exception):
+    """A question that the session refuses; nothing has changed.
+
+    >>> with Session('examples/cloud') as session:
+    ...     session.tokens('resources=VCPU:two')
+    Traceback (most recent call last):
+    ac_session.Refused: query: pair 1: BadValue
+    """
+
+    def __init__(self, status: int, line: str):
+        super().__init__(line)
+        self.status, self.line = status, line
+
+
+class Ended(Exception):
+    """The session has ended: a table is refused, say, or there is no memory. `status` is the program's, and the text its error line."""
+
+    def __init__(self, status: int, line: str):
+        super().__init__(line)
+        self.status, self.line = status, line
+
+
+class Answer(NamedTuple):
+    """The lines that a question is answered with, the status that its command would end with, and the error line of a question that is refused."""
+    lines: List[str]
+    status: int
+    error: str
+
+
+class Placement(NamedTuple):
+    """A claim: the query, and the token of the allocation candidate, which has a provider's UUID for each slot."""
+    query: str
+    token: str
+
+    @property
+    def providers(self) -> List[str]:
+        return self.token.split(',')
+
+
+class Host(NamedTuple):
+    """A root provider: whether it fits, and else which slot lacks what, what that slot asks, and of what it is."""
+    root: str
+    name: str
+    fits: bool
+    slot: str
+    lacks: str
+    asks: str
+    detail: str
+
+
+class Count(NamedTuple):
+    """How many more of the same fit, at least and at most, and at how many hosts they are short of a class."""
+    at_least: int
+    at_most: int
+    short_of: Dict[str, int]
+
+
+class Session:
+    """A session over the tables of a folder. It ends with `close`, or with the `with` that it stands in."""
+
+    def __init__(self, tables: str, *options: str, program: Optional[str] = None):
+        """`options` are those of the command, such as '--tries', '1000000'."""
+        self._errors = tempfile.TemporaryFile('w+')
+        self._process = subprocess.Popen([program or os.environ.get('AC_CLI', 'ac_cli'), 'session', '--tables', tables, *options],
+                                         stdin=subprocess.PIPE, stdout=subprocess.PIPE, stderr=self._errors)
+
+    def __enter__(self) -> Session:
+        return self
+
+    def __exit__(self, *_) -> None:
+        self.close()
+
+    def close(self) -> int:
+        """Ends the session, and gives the program's status."""
+        try:
+            self._process.stdin.close()
+        except BrokenPipeError:
+            pass
+        self._process.stdout.close()
+        status = self._process.wait()
+        self._errors.close()
+        return status
+
+    # ---- Questions as they are
+
+    def answer(self, *words: str) -> Answer:
+        """The answer to a question, given by its words; also of one that is refused.
+
+        >>> with Session('examples/cloud') as session:
+        ...     session.answer('verify', 'resources=VCPU:4', 'b48d0f61-9e2c-4c7a-83d5-e6047b15ac05')
+        Answer(lines=['no: rule 6 Sums'], status=1, error='')"""
+        self._write(words)
+        return self._read()
+
+    def ask(self, *words: str) -> Answer:
+        """The same, and `Refused` where it is refused."""
+        answer = self.answer(*words)
+        if answer.error:
+            raise Refused(answer.status, answer.error)
+        return answer
+
+    def many(self, questions: Iterable[Sequence[str]]) -> Iterator[Answer]:
+        """The answers to many questions, in order; a question is asked while those before it are answered.
+
+        >>> with Session('examples/cloud') as session:
+        ...     [len(each.lines) for each in session.many(('tokens', f'resources=VCPU:{n}') for n in (2, 8, 100))]
+        [3, 1, 0]"""
+        asked: queue.SimpleQueue = queue.SimpleQueue()
+
+        def write():
+            try:
+                for words in questions:
+                    self._write(words)
+                    asked.put(None)
+                asked.put(StopIteration)
+            except BaseException as fault:  # handed on to whoever reads
+                asked.put(fault)
+
+        threading.Thread(target=write, daemon=True).start()
+        while True:
+            turn = asked.get()
+            if turn is StopIteration:
+                return
+            if turn is not None:
+                raise turn
+            yield self._read()
+
+    # ---- What fits, and what doesn't
+
+    def tokens(self, query: str, after: str = '') -> List[str]:
+        """The tokens of all allocation candidates, in their order, or of those after a token.
+
+        >>> with Session('examples/cloud') as session:
+        ...     session.tokens('resources=VCPU:8')
+        ['6a90b2f4-c71d-4e05-a5c8-20f3e8d71b03']"""
+        return self.ask('tokens', query, *filter(None, [after])).lines
+
+    def candidates(self, query: str, after: str = '') -> dict:
+        """The answer of `GET /allocation_candidates`, as `json` reads it.
+
+        >>> with Session('examples/cloud') as session:
+        ...     sorted(session.candidates('resources=VCPU:8'))
+        ['allocation_requests', 'provider_summaries']"""
+        return json.loads('\n'.join(self.ask('candidates', query, *filter(None, [after])).lines))
+
+    def hosts(self, query: str) -> List[Host]:
+        """Which roots fit, and what the others lack.
+
+        >>> with Session('examples/cloud') as session:
+        ...     [host.name for host in session.hosts('resources=VCPU:8') if host.fits]
+        ['compute-01']"""
+        _, *rows = csv.reader(self.ask('hosts', query).lines)
+        return [Host(root, name, fits == 'yes', *more) for root, name, fits, *more in rows]
+
+    def explain(self, query: str) -> List[str]:
+        """How many providers and roots come how far, and why there is no candidate: the lines of `explain`."""
+        return self.ask('explain', query).lines
+
+    def why(self, query: str, host: str) -> List[Dict[str, str]]:
+        """The rows of `why` for a root, by their columns."""
+        return list(csv.DictReader(self.ask('why', query, host).lines))
+
+    def count(self, query: str) -> Count:
+        """How many more of the same fit. Nothing is claimed.
+
+        >>> with Session('examples/cloud') as session:
+        ...     session.count('resources=VCPU:2')
+        Count(at_least=9, at_most=9, short_of={'VCPU': 2})"""
+        [line] = self.ask('count', query).lines
+        least, most = re.match(r'at least (\d+), at most (\d+)', line).groups()
+        return Count(int(least), int(most), {name: int(hosts) for name, hosts in re.findall(r'(\w+) at (\d+) host', line)})
+
+    # ---- Claims
+
+    def claim(self, query: str, token: str) -> Optional[Placement]:
+        """Claims a candidate; None where it isn't one any more."""
+        return Placement(query, token) if self.ask('claim', query, token).status == 0 else None
+
+    def place(self, query: str) -> Optional[Placement]:
+        """Claims the first candidate; None where there is none.
+
+        >>> with Session('examples/cloud') as session:
+        ...     placed = session.place('resources=VCPU:8')
+        ...     placed.providers, session.place('resources=VCPU:8'), session.release(placed)
+        (['6a90b2f4-c71d-4e05-a5c8-20f3e8d71b03'], None, True)"""
+        pairs = [pair for pair in query.split('&') if not pair.startswith('limit=')]
+        for token in self.tokens('&'.join([*pairs, 'limit=1'])):
+            return self.claim('&'.join(pairs), token)
+        return None
+
+    def release(self, placed: Placement) -> bool:
+        """Gives back what a claim took; False where so much isn't in use."""
+        return self.ask('release', *placed).status == 0
+
+    def fill(self, query: str) -> List[Placement]:
+        """Claims as many of the same as fit, one after another, or as many as the query's `limit` says."""
+        return [Placement(query, token) for token in self.ask('fill', query).lines]
+
+    def usages(self) -> Dict[Tuple[str, str], int]:
+        """How much is used, by provider and class."""
+        answer = self.ask('usages')
+        if answer.status:
+            raise Refused(answer.status, answer.lines[0])
+        return {(provider, name): int(used) for provider, name, used in csv.reader(answer.lines[1:])}
+
+    # ---- Lines
+
+    def _write(self, words: Sequence[str]) -> None:
+        line = ' '.join(words)
+        if not re.fullmatch(r'\S+( \S+)*', line) or line.count(' ') != len(words) - 1:
+            raise ValueError(f'a question is words without blanks: {line!r}')
+        try:
+            self._process.stdin.write(line.encode() + b'\n')
+            self._process.stdin.flush()
+        except BrokenPipeError:
+            raise self._ended() from None
+
+    def _read(self) -> Answer:
+        lines: List[str] = []
+        for text in self._process.stdout:
+            line = text.decode().rstrip('\n')
+            if line.startswith('='):
+                _, status, *error = line.split(' ', 2)
+                return Answer(lines, int(status), ''.join(error))
+            # a line that would begin with `=` or a blank has a blank before it
+            lines.append(line[1:] if line.startswith(' ') else line)
+        raise self._ended()
+
+    def _ended(self) -> Ended:
+        status = self._process.wait()
+        self._errors.seek(0)
+        return Ended(status, self._errors.read().strip())

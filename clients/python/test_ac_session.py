@@ -1,0 +1,65 @@
+"""What the examples in ac_session.py don't show. `python3 clients/python/test_ac_session.py PROGRAM`, at the top of the repository, says nothing if all is well."""
+import os
+import sys
+import tempfile
+
+sys.dont_write_bytecode = True
+from ac_session import Count, Ended, Refused, Session  # noqa: E402
+
+PROGRAM = sys.argv[1]
+CLOUD = 'examples/cloud'
+VCPU = 'resources=VCPU:2'
+
+
+def refused_by(fault, call):
+    try:
+        call()
+    except fault as found:
+        return found
+    raise AssertionError(f'{fault.__name__} was not raised')
+
+
+def faked(answer):
+    """A program that answers each question so."""
+    with tempfile.NamedTemporaryFile('w', suffix='.sh', delete=False) as script:
+        script.write(f"#!/bin/sh\nwhile read -r line; do\ncat <<'END'\n{answer}\nEND\ndone\n")
+    os.chmod(script.name, 0o755)
+    return script.name
+
+
+# Placed until it is full, as many as `count` says; released, everything is as before.
+with Session(CLOUD, program=PROGRAM) as session:
+    before, most = session.usages(), session.count(VCPU)
+    placed = list(iter(lambda: session.place(VCPU + '&limit=7'), None))
+    assert most == Count(len(placed), len(placed), {'VCPU': 2}), most
+    assert session.tokens(VCPU) == [] and not any(host.fits for host in session.hosts(VCPU))
+    assert session.explain(VCPU)[-1].endswith('has room for it') and session.why(VCPU, 'compute-02')[-1]['slot'] == 'verdict'
+    assert session.claim(VCPU, placed[0].token) is None
+    assert all(session.release(one) for one in placed) and session.usages() == before
+    assert not session.release(placed[0]._replace(query='resources=VCPU:1000'))
+    assert len(session.fill(VCPU + '&limit=4')) == 4 and session.count(VCPU).at_most == len(placed) - 4
+    found = session.tokens('resources=VCPU:1')
+    assert session.tokens('resources=VCPU:1', after=found[0]) == found[1:]
+    assert len(session.candidates('resources=VCPU:1')['allocation_requests']) == len(found)
+
+# A question that is refused changes nothing; one with blanks isn't asked.
+with Session(CLOUD, '--tries', '1', program=PROGRAM) as session:
+    assert refused_by(Refused, lambda: session.tokens('resources=VCPU:1&resources1=VCPU:1&group_policy=none')).status == 8
+    assert refused_by(Refused, lambda: session.ask('nothing')).line == 'session: unknown command'
+    refused_by(ValueError, lambda: session.tokens('resources=VCPU:1 '))
+    refused_by(ValueError, lambda: session.ask('check\ncheck'))
+    assert session.ask('check').status == 0
+
+# Answers that are larger than what a pipe holds, while questions are still written; and a question that can't be asked among them.
+with Session('examples/private', program=PROGRAM) as session:
+    answers = [answer for answer in session.many(('candidates', f'resources=VCPU:{n % 8 + 1}') for n in range(2000))]
+    assert len(answers) == 2000 and all(answer.status == 0 and answer.lines for answer in answers)
+    refused_by(ValueError, lambda: list(session.many([('check',), ('tokens', 'a b')])))
+
+# The blank before a line of an answer is taken off; a session that ends says with what.
+fake = faked(' = 0\n  two blanks\nplain\n= 0')
+with Session(CLOUD, program=fake) as session:
+    assert session.ask('check').lines == ['= 0', ' two blanks', 'plain']
+os.unlink(fake)
+ended = refused_by(Ended, lambda: Session('no_such_folder', program=PROGRAM).ask('check'))
+assert (ended.status, ended.line) == (3, 'providers: Unreadable'), ended
