@@ -195,6 +195,40 @@ UNITS = {
     'inventories': lambda: inventories((id, 'CUSTOM_UNIT', 2147483647) for id in LARGE),
 }
 
+# A host of 4095 nodes; a chain of 64, and lists that name all of 64 groups.
+WIDE = {'providers': lambda: star(4096), 'inventories': lambda: inventories((id, 'VCPU', 8) for id in ids(4096)[1:])}
+CHAIN = {
+    'providers': lambda: HEADERS['providers'] + ''.join(f'{id},{ids(1)[0]},{above}\n' for id, above in zip(ids(64), ['', *ids(63)])),
+    'inventories': lambda: inventories((id, 'VCPU', 8) for id in ids(64)),
+}
+EACH_ONE = groups(1, 64, 'resources_{:02}=VCPU:1') + '&group_policy=none'
+ALL_LISTED = EACH_ONE + 100 * ('&same_subtree=' + ','.join(f'_{n:02}' for n in range(1, 65)))
+NONE_OF_MANY = 'resources1=VCPU:1&required1=' + ','.join(f'CUSTOM_LONG_NAME_{n}' for n in range(2700))
+
+# 4000 disks that all share, and no root with the trait that is asked of it.
+ALL_DISKS = shared([], ids(4000), 1)
+NO_ROOT = groups(1, 64, 'resources{}=DISK_GB:1') + '&root_required=CUSTOM_X&group_policy=none'
+
+# 16 hosts of twelve devices of one kind and four of another: five groups for those.
+KINDS = trees(16, 16)
+TWO_KINDS = {
+    'providers': lambda: providers(KINDS),
+    'inventories': lambda: inventories((id, 'CUSTOM_PCI', 8) for tree in KINDS for id in tree[1:]),
+    'traits': lambda: traits((id, 'CUSTOM_B' if place < 4 else 'CUSTOM_A') for tree in KINDS for place, id in enumerate(tree[1:])),
+}
+FIVE_OF_FOUR = (groups(1, 4, 'resources_A{0}=CUSTOM_PCI:1&required_A{0}=CUSTOM_A') + '&'
+                + groups(1, 5, 'resources_B{0}=CUSTOM_PCI:1&required_B{0}=CUSTOM_B') + '&group_policy=isolate')
+
+# 80 hosts of eight NUMA nodes with two functions each.
+FULL_HOSTS = trees(80, 24)
+NUMA_HOSTS = {
+    'providers': lambda: HEADERS['providers'] + ''.join(f'{id},{tree[0]},{"" if not place else tree[0] if place <= 8 else tree[1 + (place - 9) // 2]}\n'
+                                                        for tree in FULL_HOSTS for place, id in enumerate(tree)),
+    'inventories': lambda: inventories((id, name, total) for tree in FULL_HOSTS for place, id in enumerate(tree[1:])
+                                       for name, total in ([('VCPU', 16), ('MEMORY_MB', 65536)] if place < 8 else [('SRIOV_NET_VF', 8)])),
+}
+WITH_FUNCTIONS = 'resources=VCPU:4,MEMORY_MB:8192&' + groups(1, 2, 'resources{}=SRIOV_NET_VF:1') + '&group_policy=none'
+
 # What is asked of which cloud, and the lines, or the status alone.
 ASKED = [
     ('more groups on a network than it has functions', FUNCTIONS, ['tokens', TOO_MANY], lambda: []),
@@ -233,6 +267,14 @@ ASKED = [
      ['fill', groups(1, 4, 'resources{}=CUSTOM_PCI:1') + '&group_policy=isolate'], lambda: [line for tree in DEVICES for line in parts(tree[1:], 4)]),
     ('three of 500 nodes', filled(STAR, 'VCPU', 8),
      ['fill', groups(1, 3, 'resources{}=VCPU:5') + '&group_policy=none'], lambda: parts(STAR[0][1:], 3)),
+    ('64 groups on a host of many nodes', WIDE, ['tokens', EACH_ONE + '&limit=1'], lambda: [','.join(id for id in ids(9)[1:] for _ in range(8))]),
+    ('traits that no node has, of one host', WIDE, ['why', NONE_OF_MANY, provider(1)], 1),
+    ('100 lists of 64 groups on a chain', CHAIN, ['tokens', ALL_LISTED + '&limit=1'], lambda: [','.join(id for id in ids(8) for _ in range(8))]),
+    ('disks that all share, and no root', ALL_DISKS, ['tokens', NO_ROOT], lambda: []),
+    ('more groups of a kind than a host has devices', TWO_KINDS, ['tokens', FIVE_OF_FOUR], lambda: []),
+    ('more groups of a kind than a host has devices, hosts', TWO_KINDS, ['hosts', FIVE_OF_FOUR], 1),
+    ('NUMA nodes and functions until the hosts are full', NUMA_HOSTS, ['fill', '--sum', WITH_FUNCTIONS],
+     lambda: ['at least 2560, at most 2560: short of VCPU at 80 hosts']),
     ('disks of zones behind their hosts', shared(HOSTS, DISKS, 10), ['tokens', 'resources=CUSTOM_CPU:1,DISK_GB:1&limit=20000'],
      lambda: [f'{host},{disk}' for place, host in enumerate(HOSTS[:200]) for disk in DISKS[place % 10::10]]),
 ]
