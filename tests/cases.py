@@ -96,6 +96,20 @@ def filled(name, cloud, query, *placed, said, status=0):
     yield Case(f'fill, in sum: {name}', ['fill', '--sum', full(query)], said + '\n', status=0 if placed else 1, tables=tables(cloud))
 
 
+CAPACITY_HEAD = 'flavor,hosts,at_least,at_most,wanted,short_of,short_at\n'
+
+
+def capacity(name, cloud, flavors, *rows, status=0):
+    """`capacity` over this table of flavors must write these rows below its header."""
+    return Case(f'capacity: {name}', ['capacity'], CAPACITY_HEAD + ''.join(row + '\n' for row in rows), status=status, tables={**tables(cloud), 'flavors': full(flavors)})
+
+
+def bad_flavors(line, flavors, *words, detail='', why=''):
+    """A table of flavors must be refused with this line, and with this one behind it where more is told."""
+    return Case(f'capacity: {line}{why and ", " + why}{detail and ", in detail"}', ['capacity', *words], err=f'flavors: {line}\n{detail}', status=4,
+                tables={**tables(ONE), 'flavors': flavors})
+
+
 def counted(name, counts, **changed):
     out = ''.join(f'{table} {count}\n' for table, count in zip(HEADERS, counts))
     return Case(f'check: {name}', ['check'], out, tables={**tables(ONE), **changed})
@@ -689,6 +703,43 @@ WORDS = [
         ('verify --detail --tables examples/cloud -- resources=VCPU:1 -t', SOME, 5), ('why --tables=examples/cloud --detail -- resources=VCPU:1 -h', SOME, 5))),
 ]
 
+TWO_FIT = '"resources=VCPU:2,MEMORY_MB:512"'
+CAPACITIES = [
+    capacity('a row for each flavor, in the order of the table', TWO_SHORT, f'flavor,query\nb,{TWO_FIT}\na,resources=VCPU:8\n', 'b,2,4,4,1,MEMORY_MB,1', 'a,1,1,1,1,VCPU,1'),
+    capacity('what most hosts are short of', TWO_SHORT + '\nP4 | | VCPU total 2; MEMORY_MB total 4096', f'flavor,query\nb,{TWO_FIT}\n', 'b,3,5,5,1,VCPU,2'),
+    capacity('fewer than are wanted, and just as many', APART, 'flavor,query,wanted\na,resources=VCPU:4,5\na,resources=VCPU:4,4\n', 'a,2,4,4,5,VCPU,2', 'a,2,4,4,4,VCPU,2', status=1),
+    capacity('none is wanted, and none fits', APART, 'flavor,query,wanted\na,resources=VCPU:9,0\n', 'a,0,0,0,0,units VCPU:9,2'),
+    capacity('nobody has the class', APART, 'flavor,query\na,resources=VGPU:1\n', 'a,0,0,0,1,no inventory VGPU:1,2', status=1),
+    capacity('the trait of a host', OLD, 'flavor,query\na,resources=VCPU:1&root_required=CUSTOM_A\n', 'a,0,0,0,1,root traits,2', status=1),
+    capacity('a required trait', OLD, 'flavor,query\na,resources=VCPU:1&required=CUSTOM_A\n', 'a,0,0,0,1,required traits,2', status=1),
+    capacity('the first of what as many lack', OLD, 'flavor,query\na,resources=VCPU:1&root_required=CUSTOM_OLD&required=CUSTOM_A\n', 'a,0,0,0,1,root traits,1', status=1),
+    capacity('a limit says nothing', APART, 'flavor,query\na,resources=VCPU:4&limit=1\n', 'a,2,4,4,1,VCPU,2'),
+    capacity('more can be placed than by first fit', CHILD, f'flavor,query\na,{THREE_AND_THREE}\n', 'a,1,2,4,1,VCPU,1'),
+    capacity('a shared disk', SHARED, f'flavor,query\na,"{DISKS_TOO}"\n', 'a,2,3,3,1,DISK_GB,2'),
+    capacity('columns in any order, others beside them, and a mark of UTF-8 before them', ONE, '\ufeffid,wanted,query,flavor\n7,,resources=VCPU:4,a\n', 'a,1,2,2,1,VCPU,1'),
+    capacity('names that need quotes, and one that is empty', ONE, 'flavor,query\n"a,""b""\nc",resources=VCPU:4\n,resources=VCPU:4\n', '"a,""b""\nc",1,2,2,1,VCPU,1', ',1,2,2,1,VCPU,1'),
+    capacity('no flavor', ONE, 'flavor,query\n'),
+    capacity('of the column wanted the first counts, as of a name of a provider', ONE, 'wanted,flavor,query,wanted\n3,a,resources=VCPU:4,1\n', 'a,1,2,2,3,VCPU,1', status=1),
+    bad_flavors('record 1: NoHeader', ''),
+    bad_flavors('record 1: MissingColumn', 'flavor,wanted\na,1\n'),
+    bad_flavors('record 1: MissingColumn', 'Flavor,query\n', why='by the case of a letter'),
+    bad_flavors('record 1: DoubleColumn', 'query,flavor,query\n'),
+    bad_flavors('record 1: MissingColumn', 'query,query\n', why='before one that is there twice'),
+    bad_flavors('record 2: Width', 'flavor,query\na\n'),
+    bad_flavors('record 3: BadNumber', 'flavor,query,wanted\na,resources=VCPU:1,2\na,resources=VCPU:1,-1\n'),
+    bad_flavors('record 2: BadNumber', 'flavor,query,wanted\na,resources=VCPU:1,2147483648\n', why='beyond the greatest'),
+    bad_flavors('record 3: BadQuery', 'flavor,query\na,resources=VCPU:1\nb,\n'),
+    bad_flavors('record 3: BadQuery', 'flavor,query\na,resources=VCPU:1\nb,\n', '--detail', detail='query: NoResources\n'),
+    bad_flavors('record 2: BadQuery', b'flavor,query\na,resources=VCPU:1\xff\n', why='no UTF-8'),
+    bad_flavors('record 2: BadQuery', b'flavor,query\na,resources=VCPU:1\xff\n', '--detail', why='no UTF-8, in detail'),
+    bad_flavors('record 2: BadQuery', 'flavor,query\na,resources=VCPU:1&required=A&required=B\n', why='by version 1.36'),
+    Case('capacity: by version 1.39', ['capacity', '--microversion', '1.39'], CAPACITY_HEAD + 'a,0,0,0,1,required traits,1\n', status=1,
+         tables={**tables(ONE), 'flavors': 'flavor,query\na,resources=VCPU:1&required=A&required=B\n'}),
+    bad_flavors('record 3: Width', 'flavor,query\na,\nb\n', why='before a query in an earlier record'),
+    bad_table('usages: record 2: BadUuid', command=('capacity',), flavors='', usages=HEADERS['usages'] + 'x,VCPU,1\n', why='before the flavors'),
+    Case('capacity: a search that stops', ['capacity', '--tries', '1'], '', 'search: TooManyTries\n', 8, {**tables(APART), 'flavors': 'flavor,query\na,resources=VCPU:1\n'}),
+]
+
 SIXTY_FOUR = '&'.join(f'resources{n}=VCPU:1' for n in range(1, 65)) + '&group_policy=none'
 EIGHT = '\n'.join(f'P{n} | {"P1" if n > 1 else ""} | VCPU total 8' for n in range(1, 9))
 EIGHT_EACH = ','.join(f'P{n}' for n in range(1, 9) for _ in range(8))
@@ -702,7 +753,7 @@ MANY_GROUPS = [
     judged('64 groups fill 8 providers', EIGHT, SIXTY_FOUR, EIGHT_EACH, 'candidate'),
 ]
 
-SMALL = [*QUANTITIES, *RULES, *DETAILS, *LISTS, *FILLED, *PAGES, *TOKENS, *TABLES, *HOSTS, *QUERIES, *WORDS, *MANY_GROUPS]
+SMALL = [*QUANTITIES, *RULES, *DETAILS, *LISTS, *FILLED, *CAPACITIES, *PAGES, *TOKENS, *TABLES, *HOSTS, *QUERIES, *WORDS, *MANY_GROUPS]
 
 
 def cuts():

@@ -572,6 +572,9 @@ def slot_detail(root, suffix, needs, text, query, cloud):
     return f'{nobodys[0]}: nobody here' if nobodys else detail(furthest, suffix, needs, STAGES[far(furthest)[0]], text, query)
 
 
+CAPACITY = ['flavor', 'hosts', 'at_least', 'at_most', 'wanted', 'short_of', 'short_at']
+
+
 def roots_of(cloud, within=None):
     """All roots, or those of an aggregate: it is theirs or that of a provider of their tree."""
     return [root for root in cloud if root.root() is root and (within is None or any(within in provider.aggregates for provider in cloud if provider.root() is root))]
@@ -592,14 +595,25 @@ def host_rows(found, text, query, cloud, within=None):
     return written(rows)
 
 
-def host_sums(found, query, cloud, within=None):
-    """How many roots lack what: those that fit, then the others by falling number, without a slot first, then slot by slot and test by test."""
+def lacking(found, query, cloud, within=None):
+    """At how many roots a query fits, and how many lack what, by falling number, without a slot first, then slot by slot and test by test."""
     counts = collections.Counter(lacks(root, found, query, cloud) for root in roots_of(cloud, within))
     fit = counts.pop(('', ''), 0)
     order = 'root traits', 'required traits', 'together', *STAGES
     rows = sorted(counts.items(), key=lambda one: (-one[1], one[0][0] or 0, order.index(one[0][1])))
-    told = [[count, slot, lack, asks([*query.slots()][slot - 1][1]) if slot else ''] for (slot, lack), count in rows]
+    return fit, [[count, slot, lack, asks([*query.slots()][slot - 1][1]) if slot else ''] for (slot, lack), count in rows]
+
+
+def host_sums(found, query, cloud, within=None):
+    fit, told = lacking(found, query, cloud, within)
     return written([['hosts', 'slot', 'lacks', 'asks'], [fit, '', 'fits', ''], *told])
+
+
+def capacity_row(name, wanted, found, placed, most, short, query, cloud):
+    """How many of a flavor fit, at how many roots, and what most of these are short of; where it fits at none, what most roots lack."""
+    fit, told = lacking(found, query, cloud)
+    counts = list(short.items()) if fit else [(f'{lack} {some}'.strip(), count) for count, _, lack, some in told]
+    return [name, fit, len(placed), most, wanted, *max(counts, key=lambda one: one[1], default=('', ''))]
 
 
 def why_rows(root, found, text, query, cloud):
@@ -896,6 +910,11 @@ def asked(name, chance, cloud, query, every, judged):
     yield Case(f'{name}: fill up to a limit', ['fill', text + '&limit=2', *version], lines(*map(names, placed[:2])), status=0 if len(placed) > 1 else 1, tables=made)
     limit = chance.choice(['', '&limit=1'])
     yield Case(f'{name}: fill, in sum', ['fill', '--sum', text + limit, *version], sum_text(len(placed), most, short), status=0 if placed else 1, tables=made)
+    wanted = chance.randrange(3)
+    rows = [capacity_row(flavor, count, found, placed, most, short, query, cloud) for flavor, count in (('one', 1), ('some, "quoted"', wanted))]
+    flavors = written([['query', 'wanted', 'flavor'], [text, '', 'one'], [text, wanted, 'some, "quoted"']])
+    yield Case(f'{name}: capacity', ['capacity', *version], written([CAPACITY, *rows]), status=0 if len(placed) >= max(1, wanted) else 1,
+               tables={**made, 'flavors': flavors})
     yield Case(f'{name}: explain', ['explain', text, *version], full(explanation(found, query, cloud)), status=0 if found else 1, tables=made)
     yield Case(f'{name}: hosts', ['hosts', text, *version], full(host_rows(found, drawn_text, query, cloud)), status=0 if found else 1, tables=made)
     noted = ''.join(line + '\n' for line in difference_lines(True, query, cloud))

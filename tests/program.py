@@ -5,6 +5,7 @@ With a word, it runs only the cases whose names contain it. With --all, it also 
 The last line is `N passed, M failed`, and the status is 0 only if M is 0."""
 from __future__ import annotations
 
+import csv
 import json
 import os
 import re
@@ -17,14 +18,15 @@ from concurrent.futures import ThreadPoolExecutor
 
 sys.dont_write_bytecode = True
 HERE = os.path.dirname(os.path.abspath(__file__))
-sys.path += [os.path.join(os.path.dirname(HERE), 'tools'), *(os.path.join(HERE, folder) for folder in ('documents', 'limits', 'release'))]
+sys.path += [os.path.join(os.path.dirname(HERE), 'tools'), *(os.path.join(HERE, folder) for folder in ('documents', 'flavors', 'limits', 'release'))]
 
-from cases import CHILD, ONE, SHARED, SMALL, SOME, Case, cuts, full, lines, tables
+from cases import CAPACITY_HEAD, CHILD, ONE, SHARED, SMALL, SOME, Case, cuts, full, lines, tables
 from cliffs import cliffs
 from database import database_exports
 from examples import examples
 from export import exports
 from faults import drawn_queries, drawn_tables
+from flavor_queries import flavor_queries
 from hostile import hostile
 from large import LARGE, MOST_PROVIDERS, QUERY_BYTES, roots, vcpu
 from model import difference_line, drawn, headings, words_of
@@ -45,8 +47,8 @@ INVENTORIES = os.path.join(EXAMPLES, 'inventories.csv')
 CLOUD = os.path.join(EXAMPLES, 'cloud')
 NO_FILE = os.path.join(EXAMPLES, 'no_such_file.csv')
 ONE_HOST = '2b7d9e54-61c8-4f03-8a9d-c4e1b05f3a27\n'
-COMMANDS = 'check', 'candidates', 'tokens', 'list', 'fill', 'verify', 'explain', 'hosts', 'why', 'session'
-STATUSES = {'no: rule': 1, 'unknown provider': 1, 'query': 4, 'token': 5, 'host:': 5, 'output': 6, 'out of memory': 7,
+COMMANDS = 'check', 'candidates', 'tokens', 'list', 'fill', 'verify', 'explain', 'hosts', 'why', 'capacity', 'session'
+STATUSES = {'no: rule': 1, 'unknown provider': 1, 'query': 4, 'flavors:': 4, 'token': 5, 'host:': 5, 'output': 6, 'out of memory': 7,
             **dict.fromkeys(('providers:', 'inventories:', 'usages:', 'traits:', 'aggregates:'), 3)}
 SHELLS = [shell for shell in ('bash', 'dash', 'zsh') if shutil.which(shell)]
 SECONDS = 60
@@ -108,7 +110,7 @@ def example_of(name):
     """A case that runs the command at the end of a text of help, over the example cloud."""
     command = help_text(name).rstrip('\n').rpartition('\n')[2].strip()
     called = re.sub('^ac_cli', lambda _: shlex.quote(PROGRAM), command)
-    return Case(f'the example in the help: {command}', ['sh', '-c', f'cd examples && {called}'], SOME, status={'fill': 1, 'verify': 1, 'explain': 1, 'hosts': 1, 'why': 1}.get(name, 0))
+    return Case(f'the example in the help: {command}', ['sh', '-c', f'cd examples && {called}'], SOME, status={'fill': 1, 'verify': 1, 'explain': 1, 'hosts': 1, 'why': 1, 'capacity': 1}.get(name, 0))
 
 
 HELP = [
@@ -132,6 +134,7 @@ WORDS = [
     refused('no query', over(['tokens'])),
     refused('no query for candidates', over(['candidates'])),
     refused('no query for list', over(['list'])),
+    refused('no table of flavors', over(['capacity']), '<FLAVORS>'),
     refused('a token for list', over(['list', 'resources=VCPU:2', ONE_HOST.strip()])),
     refused('no query for fill', over(['fill'])),
     refused('a token for fill', over(['fill', 'resources=VCPU:2', ONE_HOST.strip()])),
@@ -230,6 +233,11 @@ FILES = [
          given=b'tokens resources=VCPU:12&required=!CUSTOM_A&required=!CUSTOM_B\n'),
     Case('a folder for the questions', ['sh', '-c', 'exec "$1" session --tables examples/cloud < examples', 'session', PROGRAM], err='questions: Unreadable\n', status=3),
     unreadable('no file of providers for a session', over(['session'], NO_FILE), 'providers'),
+    Case('flavors through a pipe', over(['capacity', '/dev/stdin']), CAPACITY_HEAD + 'one,1,3,3,1,VCPU,1\n', given=b'flavor,query\none,resources=VCPU:6&in_tree=' + ONE_HOST.strip().encode() + b'\n'),
+    *(Case(f'{name} for the table of flavors', over(['capacity', path]), err='flavors: Unreadable\n', status=4) for name, path in (('no file', NO_FILE), ('a folder', EXAMPLES))),
+    Case('a table of flavors without end', over(['capacity', '/dev/zero']), err='flavors: TooLarge\n', status=4),
+    unreadable('neither tables nor flavors: the tables are told', over(['capacity', NO_FILE], NO_FILE), 'providers'),
+    Case('no file of flavors, and a table that is refused: the file is told', over(['capacity', NO_FILE], INVENTORIES), err='flavors: Unreadable\n', status=4),
     Case('a refused query in two groups of faults', tokens('limit=0&colour=red'), err='query: pair 1: BadValue\n', status=4),
 ]
 
@@ -350,6 +358,7 @@ DEVICES = [
     to_full('verify', over(['verify', 'resources=VCPU:2', ONE_HOST.strip()])),
     to_full('explain', over(['explain', 'resources=VCPU:2'])),
     to_full('hosts', over(['hosts', 'resources=VCPU:2'])),
+    to_full('capacity', over(['capacity']), flavors='flavor,query\none,resources=VCPU:2\n'),
     to_full('why', over(['why', 'resources=VCPU:2', ONE_HOST.strip()])),
     Case('a full device: nothing to write', tokens('resources=DISK_GB:3000'), to='/dev/full'),
     to_nobody('tokens', tokens('resources=VCPU:2')),
@@ -394,6 +403,8 @@ GROWTHS = [
     growing('explain, no candidate', ['explain', FIVES], ONE),
     growing('hosts', ['hosts', DISK], SHARED),
     growing('hosts, no candidate', ['hosts', FIVES], ONE),
+    growing('capacity', ['capacity'], SHARED, flavors=full(f'flavor,query,wanted\none,"{DISK}",2\nnone,"{DISK}&root_required=CUSTOM_A",\n')),
+    growing('capacity, a refused query', ['capacity', '--detail'], ONE, flavors='flavor,query\none,resources=VCPU\n'),
     growing('hosts, a required trait', ['hosts', TWO + '&required=CUSTOM_A'], ONE),
     growing('why', ['why', DISK, 'P1'], SHARED),
     growing('why, with traits and aggregates', ['why', LACKING, 'P1'], ONE),
@@ -417,6 +428,8 @@ def status_of(text):
     """The status that goes with an answer or a fault line."""
     if re.search('^candidates: none$|^verdict,(?!.*,fits$)', text, re.M):
         return 1
+    if text.startswith(CAPACITY_HEAD):
+        return int(any(int(row['at_least']) < int(row['wanted']) for row in csv.DictReader(text.splitlines())))
     return next((status for start, status in STATUSES.items() if text.startswith(start)), 0)
 
 
@@ -489,7 +502,7 @@ def files(case, folder):
         path = os.path.join(folder, name + '.csv')
         with open(path, 'wb') as file:
             file.write(made.encode() if isinstance(made, str) else made)
-        options += [f'--{name}', path]
+        options += [path] if name == 'flavors' else [f'--{name}', path]
     return ['--tables', folder] if case.together else options
 
 
@@ -560,7 +573,7 @@ def main(*given):
     if len({case.out for case in rules if case.out.startswith('no: rule')}) < 9:
         print('FAILED to find an example of each rule in docs/RULES.md\n0 passed, 1 failed')
         return 1
-    pages = [case for page in ('README.md', 'examples/README.md', 'docs/GUIDE.md', 'docs/RULES.md', 'docs/REFERENCE.md', 'docs/EXPORT.md', 'tests/examples/commands.txt')
+    pages = [case for page in ('README.md', 'examples/README.md', 'docs/GUIDE.md', 'docs/CAPACITY.md', 'docs/RULES.md', 'docs/REFERENCE.md', 'docs/EXPORT.md', 'tests/examples/commands.txt')
              for case in shown(page)]
     pages += shown('docs/SESSION.md', SHELLS)
     if 'AC_CLI' not in os.environ:
@@ -568,7 +581,7 @@ def main(*given):
     chance = [*drawn(150), *drawn_tables(200), *drawn_queries(200)]
     linked = STATIC if os.path.isfile(os.path.join(ROOT, 'out', 'ac_cli.o')) and 'AC_CLI' not in os.environ else []
     cases = [PAGES, CRATES, DRAWING, *linked, *HELP, *WORDS, *FILES, *FOLDERS, *DRIVER, *DETAILS, *second_lines(), *PASTED, *DEVICES, *GROWTHS, KNOWN, *REFUSALS, *SMALL, *pages, remade('examples/private/README.md'),
-             *rules, *examples(), *concerned(), *exports(), *database_exports(), *sessions(PROGRAM), *chance, *LARGE, *hostile(PROGRAM), *cliffs(PROGRAM), *tries(PROGRAM), FEW_BYTES, *cuts()]
+             *rules, *examples(), *concerned(), *exports(), *database_exports(), *flavor_queries(), *sessions(PROGRAM), *chance, *LARGE, *hostile(PROGRAM), *cliffs(PROGRAM), *tries(PROGRAM), FEW_BYTES, *cuts()]
     cases = [case for case in cases if all(word in case.name for word in words)]
     failed = 0
     with ThreadPoolExecutor(max_workers=2) as pool:

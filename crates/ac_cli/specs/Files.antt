@@ -1,6 +1,10 @@
--- The files of the tables: which was opened for which.
+-- The files of the tables: which was opened for which; and the bytes of the table of flavors.
 use Rattle.std.specs.Prelude.{⊤, List, ℕ, Option, Some, None}
+use Rattle.ac_base.specs.Devices.{Rises}
 use Rattle.ac_run.specs.Tasks.{Paths}
+use Rattle.ac_cli.specs.declared.files.FlavorsUnread.{FlavorsUnread}
+use Rattle.ac_cli.specs.declared.files.FlavorsUnread.TheVariants as unread
+use Rattle.ac_tables.specs.Drain.{AllBytes, AreTooMany}
 use Rattle.ac_tables.specs.FiveTables.{table_in}
 use Rattle.ac_tables.specs.declared.fault.Table.{Table}
 use Rattle.ac_tables.specs.declared.read.FiveTables.{FiveTables}
@@ -15,3 +19,23 @@ IsOpened opens (Some path) (Some feed) = opens path feed
 -- each table has what was opened at its path
 abbrev pub AreOpened : {R : Type 0} → (List ℕ → R → Type 0) → Paths → FiveTables R → Type 0
 AreOpened opens paths inputs = (t : Table) → IsOpened opens (table_in paths t) (table_in inputs t)
+
+-- ---- the table of flavors
+
+-- What was opened at a path gave all these bytes.
+pub record Holds {R : Type 0} (opens : List ℕ → R → Type 0) (remaining : R → Option (List ℕ)) (path bytes : List ℕ) : Type 0 where
+  pub file : R
+  pub opened : opens path file
+  pub all : AllBytes (remaining file) bytes
+
+-- where a path is given for it
+abbrev pub HoldsFlavors : {R : Type 0} → (List ℕ → R → Type 0) → (R → Option (List ℕ)) → Option (List ℕ) → List ℕ → Type 0
+HoldsFlavors opens remaining None bytes = ⊤
+HoldsFlavors opens remaining (Some path) bytes = Holds opens remaining path bytes
+
+-- why its bytes can't be had: its path was refused, or what was opened there failed, or had too many; or memory gave out
+abbrev pub ExplainsUnread : {R : Type 0} → (List ℕ → R → Type 0) → (List ℕ → List ℕ → Type 0) → (R → Option (List ℕ)) → (R → ℕ) → List ℕ → FlavorsUnread → Type 0
+ExplainsUnread {R} opens refuses remaining failures path (unread.Unopened reason) = refuses path reason.now
+ExplainsUnread {R} opens refuses remaining failures path unread.Failed = (from : R) × (to : R) × opens path from × Rises (failures from) (failures to)
+ExplainsUnread {R} opens refuses remaining failures path unread.TooLarge = (from : R) × opens path from × AreTooMany (remaining from)
+ExplainsUnread {R} opens refuses remaining failures path unread.NoMemory = ⊤

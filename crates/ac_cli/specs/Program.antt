@@ -12,6 +12,7 @@ use Rattle.ac_query.specs.declared.version.Version.TheVariants.{V136}
 use Rattle.ac_remedies.specs.Tables.{unread_remedy}
 use Rattle.ac_run.specs.Answer.{Outcome, answer}
 use Rattle.ac_run.specs.Feeds.{Bytes, FeedRose, TellBytes}
+use Rattle.ac_run.specs.Flavors.{large_line, unread_line}
 use Rattle.ac_run.specs.Lines.{memory_line, output_line, tries_line, unreadable_line}
 use Rattle.ac_run.specs.Notes.{noted}
 use Rattle.ac_run.specs.Run.{FailsOr, IsAnswered, IsRefused, IsUnread}
@@ -25,8 +26,10 @@ use Rattle.ac_session.specs.Tries.{AreStops}
 use Rattle.ac_session.specs.Turns.{lines_in}
 use Rattle.ac_tables.specs.Tables.{world_stated}
 use Rattle.ac_tables.specs.declared.read.FiveTables.{FiveTables}
-use Rattle.ac_cli.specs.Files.{AreOpened}
-use Rattle.ac_words.specs.Words.{Line, Says, faults, named, task_in}
+use Rattle.ac_cli.specs.Files.{AreOpened, ExplainsUnread, HoldsFlavors}
+use Rattle.ac_cli.specs.declared.files.FlavorsUnread.{FlavorsUnread}
+use Rattle.ac_cli.specs.declared.files.FlavorsUnread.TheVariants as unread
+use Rattle.ac_words.specs.Words.{Line, Says, faults, flavors_called, named, task_in}
 use Rattle.ac_words.specs.declared.name.Name.{Name}
 use Rattle.ac_tables.specs.FiveTables.{table_in}
 
@@ -188,18 +191,44 @@ pub record IsUnopened (refuses : List ℕ → List ℕ → Type 0) (line : Line)
   pub told : IsToldUnopened (detail_in line) table path reason (IsLine s) given
   pub output : s.out_new ≡ s.out_old
 
+-- what is told of a table of flavors that can't be read; where more is told, with the reason, if one was given
+abbrev pub unread_told : Option Paths → Text → Option Text → List ℕ
+unread_told None path reason = unread_line
+unread_told (Some paths) path reason = unread_line ++ unread_remedy path reason
+
+-- it is told that the bytes of a table of flavors can't be had, or else want of memory for that
+abbrev pub IsToldUnread : Option Paths → Text → FlavorsUnread → (List ℕ → Type 0) → ℕ → Type 0
+IsToldUnread detail path (unread.Unopened reason) Told given =
+    (Told (unread_told detail path (Some reason.now)) × (given ≡ 4)) ⊎ (Told memory_line × (given ≡ 7))
+IsToldUnread detail path unread.Failed Told given = (Told (unread_told detail path None) × (given ≡ 4)) ⊎ (Told memory_line × (given ≡ 7))
+IsToldUnread detail path unread.TooLarge Told given = Told large_line × (given ≡ 4)
+IsToldUnread detail path unread.NoMemory Told given = Told memory_line × (given ≡ 7)
+
+-- The bytes of the table of flavors can't be had, which is told.
+pub record LacksFlavors {R : Type 0} (opens : List ℕ → R → Type 0) (refuses : List ℕ → List ℕ → Type 0) (remaining : R → Option (List ℕ)) (failures : R → ℕ)
+    (line : Line) (s : Streams) (given : ℕ) : Type 0 where
+  pub path : Text
+  pub named : flavors_called line.call ≡ Some path
+  pub why : FlavorsUnread
+  pub because : ExplainsUnread opens refuses remaining failures path why
+  pub told : IsToldUnread (detail_in line) path why (IsLine s) given
+  pub output : s.out_new ≡ s.out_old
+
 -- What a line calls for was done over what was opened at its paths.
 pub record RanOpened {R Q : Type 0} (opens : List ℕ → R → Type 0) (remaining : R → Option (List ℕ)) (failures : R → ℕ)
     (asked : Q → Option (List ℕ)) (fails : Q → ℕ) (questions : Q) (line : Line) (s : Streams) (status : ℕ) : Type 0 where
   pub from : FiveTables R
   pub to : FiveTables R
   pub files : AreOpened opens line.paths from
-  pub ran : RanCall remaining failures asked fails (task_in line (detail_in line)) line from to questions s status
+  pub flavors : List ℕ
+  pub held : HoldsFlavors opens remaining (flavors_called line.call) flavors
+  pub ran : RanCall remaining failures asked fails (task_in line flavors (detail_in line)) line from to questions s status
 
 abbrev pub EndsForLine : {R Q : Type 0} → (List ℕ → R → Type 0) → (List ℕ → List ℕ → Type 0) → (R → Option (List ℕ)) → (R → ℕ) → (Q → Option (List ℕ)) → (Q → ℕ)
     → Q → Line → Streams → ℕ → Type 0
 EndsForLine opens refuses remaining failures asked fails questions line s given =
-    IsUnopened refuses line s given ⊎ RanOpened opens remaining failures asked fails questions line s given
+    IsUnopened refuses line s given
+    ⊎ (LacksFlavors opens refuses remaining failures line s given ⊎ RanOpened opens remaining failures asked fails questions line s given)
 
 -- ---- all words
 

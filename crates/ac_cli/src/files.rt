@@ -1,12 +1,13 @@
-//! The files of the tables.
+//! The files of the tables, and that of the table of flavors.
 ghost use Rattle.std.specs.Prelude.{◌≡◌, IfErr, IfOk, Some, option_map};
-ghost use Rattle.ac_cli.specs.Files.{AreOpened, IsOpened};
+ghost use Rattle.ac_cli.specs.Files.{AreOpened, ExplainsUnread, Holds, IsOpened};
 ghost use Rattle.ac_run.specs.Tasks.{paths_shown};
 ghost use Rattle.ac_tables.specs.FiveTables.{table_in};
 
 use crate::host::Host;
 use ac_run::{Inputs, Paths};
-use ac_tables::Table;
+use ac_tables::{ReadFault, Table, drain};
+use std::alloc::Global;
 
 /// A table whose file can't be opened: its path, and the reason.
 #[derive(Clone, Copy, Debug)]
@@ -67,4 +68,36 @@ pub fn opened_inputs<'a, H: Host>(
         traits: opened_if_given(host, Table::Traits, paths.traits)?,
         aggregates: opened_if_given(host, Table::Aggregates, paths.aggregates)?,
     })
+}
+
+/// Why the bytes of a table of flavors can't be had.
+#[derive(Clone, Copy, Debug)]
+pub enum FlavorsUnread {
+    /// Its file can't be opened, for this reason.
+    Unopened(&'static str),
+    /// Its file failed.
+    Failed,
+    /// It has more bytes than a table may.
+    TooLarge,
+    /// A growth was refused.
+    NoMemory,
+}
+
+/// The bytes of the table of flavors at a path.
+pub fn read_flavors<H: Host>(alloc: Global, host: &H, path: &str) -> Result<Vec<u8>, FlavorsUnread>
+    ensures bytes { IfOk result (λ bytes.
+        Holds (H.opens host.now) H.File.remaining path.now bytes.items) }
+    ensures fault { IfErr result (ExplainsUnread (H.opens host.now) (H.refuses host.now)
+        H.File.remaining H.File.failures path.now) }
+{
+    let mut file = match host.open(path) {
+        Ok(file) => file,
+        Err(reason) => return Err(FlavorsUnread::Unopened(reason)),
+    };
+    match drain(alloc, &mut file) {
+        Ok(bytes) => Ok(bytes),
+        Err(ReadFault::Unreadable) => Err(FlavorsUnread::Failed),
+        Err(ReadFault::TooLarge) => Err(FlavorsUnread::TooLarge),
+        Err(ReadFault::NoMemory) => Err(FlavorsUnread::NoMemory),
+    }
 }

@@ -1,20 +1,26 @@
 //! The program around a run: its words, its files and its streams.
-ghost use Rattle.std.specs.Prelude.{◌≡◌, ◌≤◌, map, string_bytes};
+ghost use Rattle.std.specs.Prelude.{◌≡◌, ◌≤◌, ◌⊎◌, IfErr, IfOk, Some, map, option_map, string_bytes};
 ghost use Rattle.std.specs.Io.KnownBytes.{Appends};
 ghost use Rattle.ac_base.specs.Devices.{Rises, TakesPart};
 ghost use Rattle.ac_base.specs.Writing.{TakesLine};
 ghost use Rattle.ac_run.specs.Feeds.{Bytes, TellBytes};
+ghost use Rattle.ac_run.specs.Lines.{memory_line};
 ghost use Rattle.ac_run.specs.Notes.{noted};
 ghost use Rattle.ac_run.specs.Tasks.{command_shown, detail_shown, paths_shown, task_of};
-ghost use Rattle.ac_cli.specs.Program.{EndsForLine, EndsForWords, EndsProgram, HeldSession, IsShown, IsToldUnopened, RanJob, RanSample, RanTask, detail_in, note_behind, seen};
+ghost use Rattle.ac_cli.specs.Program.{EndsForLine, EndsForWords, EndsProgram, HeldSession, IsShown, IsToldUnopened, IsToldUnread, RanCall, RanJob, RanSample, RanTask, detail_in, note_behind, seen, unread_told};
+ghost use Rattle.ac_cli.specs.Files.{ExplainsUnread, HoldsFlavors};
+ghost use Rattle.ac_words.specs.Words.{flavors_called, task_in};
 
-use crate::files::{Unopened, opened_inputs};
+use crate::files::{FlavorsUnread, Unopened, opened_inputs, read_flavors};
 use crate::host::{Host, Unworded};
 use crate::sample;
 use ac_base::{Feed, FromRead, Gathering, Sink, push_all};
 use ac_query::Version;
 use ac_remedies::unread_remedy;
-use ac_run::{Command, Inputs, Job, Paths, Refusal, Refused, TablesRefusal, run, tell};
+use ac_run::{
+    AskRefusal, Command, FlavorsRefusal, Inputs, Job, Paths, Refusal, Refused, TablesRefusal, run,
+    tell,
+};
 use ac_session::{Lines, run_session};
 use ac_words::{WordFault, Words, read_words};
 use std::alloc::Global;
@@ -149,12 +155,105 @@ fn tell_unopened<E: Sink>(
     tell(err, &Refused::new(alloc, refusal, remedy))
 }
 
+// Tells that the bytes of a table of flavors can't be read, for a reason, where one is known: its status.
+fn tell_unreadable<E: Sink>(
+    alloc: Global,
+    detail: Option<&Paths<'_>>,
+    path: &str,
+    reason: Option<&'static str>,
+    err: &mut E,
+) -> u8
+    ensures { (TakesLine (E.taken err.old) (E.taken err.new) (E.failures err.old)
+        (E.failures err.new) (unread_told (detail_shown detail.entry) path.now
+        (option_map (λ r. r.now) reason.entry)) × (result ≡ 4)) ⊎ (TakesLine (E.taken err.old)
+        (E.taken err.new) (E.failures err.old) (E.failures err.new) memory_line × (result ≡ 7)) }
+{
+    let refusal = Refusal::Asked(AskRefusal::Flavors(FlavorsRefusal::Unreadable));
+    if detail.is_none() {
+        return tell(err, &Refused::of(alloc, refusal));
+    }
+    let remedy = unread_remedy(alloc, path, reason);
+    tell(err, &Refused::new(alloc, refusal, remedy))
+}
+
+// Tells why the bytes of a table of flavors can't be had: its status.
+fn tell_unread<E: Sink>(
+    alloc: Global,
+    detail: Option<&Paths<'_>>,
+    path: &str,
+    unread: FlavorsUnread,
+    err: &mut E,
+) -> u8
+    ensures { IsToldUnread (detail_shown detail.entry) path.now unread (λ line. TakesLine
+        (E.taken err.old) (E.taken err.new) (E.failures err.old) (E.failures err.new) line) result }
+{
+    let refusal = match unread {
+        FlavorsUnread::Unopened(reason) => {
+            return tell_unreadable(alloc, detail, path, Some(reason), err);
+        }
+        FlavorsUnread::Failed => return tell_unreadable(alloc, detail, path, None, err),
+        FlavorsUnread::TooLarge => Refusal::Asked(AskRefusal::Flavors(FlavorsRefusal::TooLarge)),
+        FlavorsUnread::NoMemory => Refusal::NoMemory,
+    };
+    tell(err, &Refused::of(alloc, refusal))
+}
+
+// The bytes of the table of flavors, where the words ask for one; else its path, and why they can't be had.
+fn flavors_of<'a, H: Host>(
+    alloc: Global,
+    host: &H,
+    words: &'a Words,
+) -> Result<Vec<u8>, (&'a str, FlavorsUnread)>
+    ensures held { IfOk result (λ bytes. HoldsFlavors (H.opens host.now) H.File.remaining
+        (flavors_called words.now.call) bytes.items) }
+    ensures fault { IfErr result (λ lack. (flavors_called words.now.call ≡ Some lack.0.now)
+        × ExplainsUnread (H.opens host.now) (H.refuses host.now) H.File.remaining H.File.failures
+        lack.0.now lack.1) }
+{
+    match words.flavors() {
+        Some(path) => read_flavors(alloc, host, path).map_err(|unread| (path, unread)),
+        None => Ok(Vec::new(alloc)),
+    }
+}
+
 // The paths of the words, where more is to be told.
 fn detail_of<'a>(words: &Words, paths: &'a Paths<'a>) -> Option<&'a Paths<'a>>
     requires { paths_shown paths.now ≡ words.now.paths }
     ensures { detail_shown result ≡ detail_in words.now }
 {
     if words.detail() { Some(paths) } else { None }
+}
+
+// Does what accepted words ask for, over the feeds of their tables and the text of their table of flavors.
+fn answer_opened<F: Feed, Q: Feed + Drop, W: Sink + Drop, E: Sink>(
+    alloc: Global,
+    words: &Words,
+    flavors: &[u8],
+    inputs: &mut Inputs<F>,
+    questions: Q,
+    out: W,
+    err: &mut E,
+) -> (u8, W)
+    ensures { RanCall F.remaining F.failures Q.remaining Q.failures
+        (task_in words.now flavors.now (detail_in words.now)) words.now inputs.old inputs.new
+        questions (seen W.taken W.failures E.taken E.failures out result.1 err.old err.new)
+        result.0 }
+{
+    let paths = words.paths();
+    let detail = detail_of(words, &paths);
+    match words.job(flavors, detail) {
+        Some(job) => ran_job(alloc, &job, inputs, out, err),
+        None => held(
+            alloc,
+            words.version(),
+            words.tries(),
+            detail,
+            inputs,
+            questions,
+            out,
+            err,
+        ),
+    }
 }
 
 // Does what accepted words ask for.
@@ -177,19 +276,11 @@ fn answer_line<H: Host + AllocGlobal, Q: Feed + Drop, W: Sink + Drop, E: Sink>(
         Ok(inputs) => inputs,
         Err(unopened) => return (tell_unopened(alloc, detail, &unopened, err), out),
     };
-    match words.job(detail) {
-        Some(job) => ran_job(alloc, &job, &mut inputs, out, err),
-        None => held(
-            alloc,
-            words.version(),
-            words.tries(),
-            detail,
-            &mut inputs,
-            questions,
-            out,
-            err,
-        ),
-    }
+    let flavors = match flavors_of(alloc, host, words) {
+        Ok(flavors) => flavors,
+        Err((path, unread)) => return (tell_unread(alloc, detail, path, unread, err), out),
+    };
+    answer_opened(alloc, words, &flavors, &mut inputs, questions, out, err)
 }
 
 // Does what words ask for.

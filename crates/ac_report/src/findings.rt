@@ -16,6 +16,6 @@ pub use explanation::{
     has_candidate,
 };
 pub use host_rows::{hosts_status, hosts_text};
-pub use host_sums::sums_text;
+pub use host_sums::{lack_counts, sums_text};
 pub use question::Question;
 pub use why_rows::{root_place, why_at};

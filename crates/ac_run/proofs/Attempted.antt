@@ -4,18 +4,18 @@ use Rattle.std.proofs.lemmas.Bool.Decides.{nat_tests}
 use Rattle.std.specs.Global.{Vec}
 use Rattle.std.specs.Prelude.{Contains, nat_lt, if◌then◌else◌, IfOk, Result, Ok, Err}
 use Rattle.ac_base.specs.Devices.{TakesPart}
-use Rattle.ac_cloud.specs.World.{World}
+use Rattle.ac_cloud.specs.World.{Provider, World}
 use Rattle.ac_query.specs.declared.version.Version.{Version}
 use Rattle.ac_run.specs.Answer.{Outcome, answer, answer_by, answer_in, answer_within, past_query, past_tables, refused, said_by, size_refused, table_refused, with_detail}
-use Rattle.ac_run.specs.Details.{asked_remedy, asked_text, behind, fault_remedy, reading_remedy}
+use Rattle.ac_run.specs.Details.{asked_remedy, asked_text, asks_text, behind, text_asked, fault_remedy, reading_remedy}
 use Rattle.ac_run.specs.Feeds.Draining.{ExplainsReading}
 use Rattle.ac_run.specs.Feeds.{Bytes, TellBytes, too_large}
 use Rattle.ac_run.specs.Wanted.Given.{tables_in}
 use Rattle.ac_run.specs.Lines.{memory_line}
 use Rattle.ac_run.specs.Refusals.{IsRefusalWith, line_of, line_of_asked, line_of_tables, line_told, status_of, status_of_asked, status_of_tables, status_told}
 use Rattle.ac_run.specs.Run.{Explains, ExplainsTables, IsStated, IsWritten}
-use Rattle.ac_run.specs.Tasks.{Command, Paths, Task, check, candidates, tokens, list, fill, verify, explain, hosts, why, token_in}
-use Rattle.ac_run.specs.Wanted.{ExplainsWanted}
+use Rattle.ac_run.specs.Tasks.{Command, Paths, Task, check, candidates, tokens, list, fill, verify, explain, hosts, why, capacity, token_in}
+use Rattle.ac_run.specs.Wanted.{AsksOne, ExplainsWanted}
 use Rattle.ac_run.specs.declared.refusal.AskRefusal.{AskRefusal}
 use Rattle.ac_run.specs.declared.refusal.AskRefusal.TheVariants as ask
 use Rattle.ac_run.specs.declared.refusal.Refusal.{Refusal}
@@ -140,10 +140,11 @@ module _ (text : List ℕ) (o said : Outcome) (old new : Option (List ℕ)) wher
 
 -- ---- what a task asks of a world
 
--- but for `check` a command asks for a query
-pub asks_query : (command : Command) (detail : Bool) (version : Version) (query : List ℕ) (world : World) → (command ≡ check → ⊥)
+-- but for `check` and `capacity` a command asks for a query
+pub asks_query : (command : Command) (detail : Bool) (version : Version) (query : List ℕ) (world : World) → AsksOne command
     → answer_by command detail version query world ≡ past_query (said_by command detail world) (token_in command) version query
-asks_query check detail version query world other = absurd (other refl)
+asks_query check detail version query world other = absurd other
+asks_query (capacity flavors) detail version query world other = absurd other
 asks_query (candidates after traits) detail version query world other = refl
 asks_query (tokens after) detail version query world other = refl
 asks_query (list after traits) detail version query world other = refl
@@ -152,6 +153,19 @@ asks_query (verify token) detail version query world other = refl
 asks_query explain detail version query world other = refl
 asks_query (hosts sum within) detail version query world other = refl
 asks_query (why host) detail version query world other = refl
+
+-- and what is to be done says so
+asks_text_of : (command : Command) (all : List Provider) (task : Task) → AsksOne command → text_asked command all task ≡ asks_text all task
+asks_text_of check all task one = absurd one
+asks_text_of (capacity flavors) all task one = absurd one
+asks_text_of (candidates after traits) all task one = refl
+asks_text_of (tokens after) all task one = refl
+asks_text_of (list after traits) all task one = refl
+asks_text_of (fill sum) all task one = refl
+asks_text_of (verify token) all task one = refl
+asks_text_of explain all task one = refl
+asks_text_of (hosts sum within) all task one = refl
+asks_text_of (why host) all task one = refl
 
 module _ (task : Task) (world : World) where
   refused_in : (line text : List ℕ) (status : ℕ) → 3 ≤ status → answer_in task world ≡ refused line status → asked_text world.providers task ≡ text
@@ -167,13 +181,15 @@ module _ (task : Task) (world : World) where
   asked_said ask.NoMemory h some = absurd (some refl)
   asked_said (ask.Query f) h some =
       refused_in (line_of_asked (ask.Query f)) (asked_remedy task (ask.Query f)) 4 (omega arith)
-      (asks_query task.command _ task.version task.query world h.0 ∙ rw (h.1.2, h.1.1) refl) (rw (h.1.2, h.1.1) refl)
+      (asks_query task.command _ task.version task.query world h.0 ∙ rw (h.1.2, h.1.1) refl) (asks_text_of task.command world.providers task h.0 ∙ rw (h.1.2, h.1.1) refl)
   asked_said (ask.Token f) h some =
       refused_in (line_of_asked (ask.Token f)) (asked_remedy task (ask.Token f)) 5 (omega arith)
-      (asks_query task.command _ task.version task.query world h.0 ∙ rw (h.1, h.2) refl) (rw (h.1, h.2) refl)
+      (asks_query task.command _ task.version task.query world h.0 ∙ rw (h.1, h.2) refl) (asks_text_of task.command world.providers task h.0 ∙ rw (h.1, h.2) refl)
   asked_said (ask.Host f) h some =
       refused_in (line_of_asked (ask.Host f)) (asked_remedy task (ask.Host f)) 5 (omega arith)
-      (asks_query task.command _ task.version task.query world h.0 ∙ rw (h.1, h.2.1, h.2.2) refl) (rw (h.1, h.2.1, h.2.2) refl)
+      (asks_query task.command _ task.version task.query world h.0 ∙ rw (h.1, h.2.1, h.2.2) refl) (asks_text_of task.command world.providers task h.0 ∙ rw (h.1, h.2.1, h.2.2) refl)
+  asked_said (ask.Flavors f) h some =
+      refused_in (line_of_asked (ask.Flavors f)) (asked_remedy task (ask.Flavors f)) 4 (omega arith) (rw (h.1, h.2) refl) (rw (h.1, h.2) refl)
 
   module _ {R : Type 0} (remaining : R → Option (List ℕ)) (failures : R → ℕ) (from to : FiveTables R) (stated : (b : Bytes) → TellBytes remaining from b → IsStated b world) where
     abbrev IsWhyAsked : List ℕ → ℕ → Type 0
@@ -193,6 +209,7 @@ module _ (task : Task) (world : World) where
     asked (ask.Query f) h = this_very (ask.Query f) h (λ e. cc) (omega arith) (omega arith)
     asked (ask.Token f) h = this_very (ask.Token f) h (λ e. cc) (omega arith) (omega arith)
     asked (ask.Host f) h = this_very (ask.Host f) h (λ e. cc) (omega arith) (omega arith)
+    asked (ask.Flavors f) h = this_very (ask.Flavors f) h (λ e. cc) (omega arith) (omega arith)
 
     pub asked_told : {F : Type 0} (refusal : AskRefusal) (text : Result (Vec ℕ) F) (told : Refused) → ExplainsWanted task world refusal
         → IfOk text (λ t. t.items ≡ behind task.detail (λ _. asked_remedy task refusal)) → IsRefusalWith (whole.Asked refusal) text told

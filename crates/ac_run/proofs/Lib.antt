@@ -7,3 +7,5 @@ pub mod Delivering
 pub mod HostFound
 pub mod FaultsTold
 pub mod StatedRequests
+pub mod HostsThere
+pub mod FlavorsRead

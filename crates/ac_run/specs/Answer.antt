@@ -28,7 +28,9 @@ use Rattle.ac_report.specs.Findings.Explanation.Candidates.{has_candidate}
 use Rattle.ac_report.specs.Findings.HostRows.{hosts_status, hosts_text}
 use Rattle.ac_report.specs.Findings.HostSums.{sums_text}
 use Rattle.ac_report.specs.Findings.WhyRows.{root_place, why_status, why_text}
+use Rattle.ac_run.specs.Capacity.{capacity_status, capacity_text}
 use Rattle.ac_run.specs.Feeds.{Bytes, too_large}
+use Rattle.ac_run.specs.Flavors.{Plan, flavors_refused, plans_of}
 use Rattle.ac_run.specs.Lines.{too_large_line, record_line, query_line, token_line, host_line, memory_line}
 use Rattle.ac_run.specs.Details.{asked_text, behind, fault_text, size_text}
 use Rattle.ac_run.specs.Wanted.Given.{tables_in, token_refusal}
@@ -126,6 +128,14 @@ on_host (Err f) say = refused (host_line f) 5
 abbrev pub why_rows : List Provider → List ℕ → Says
 why_rows all host asked ids = on_host (host_of all host) (λ host. why_not all asked host)
 
+-- how many of each flavor a cloud can hold
+abbrev pub capacities : List Provider → List Plan → Outcome
+capacities all plans = written (capacity_text all plans) (capacity_status all plans)
+
+-- what is said of a table of flavors, as a version reads their queries, unless it is refused
+abbrev pub capacity_said : Version → List ℕ → List Provider → Outcome
+capacity_said version flavors all = told (flavors_refused version flavors) (λ why. refused why.line 4) (capacities all (plans_of version flavors))
+
 -- what is said, unless the token is refused
 abbrev pub past_token : Says → Option (List ℕ) → Asked → Outcome
 past_token say token asked = told (token_refusal asked token) (λ f. refused (token_line f) 5) (say asked (ids_given token))
@@ -146,10 +156,12 @@ said_by (command.verify token) detail world = verdict_line world.providers detai
 said_by command.explain detail world = explanation world.providers
 said_by (command.hosts sum within) detail world = host_rows world.providers sum within
 said_by (command.why host) detail world = why_rows world.providers host
+said_by (command.capacity flavors) detail world = λ asked ids. capacities world.providers []
 
--- the answer of a command; `check` asks for no query
+-- the answer of a command; `check` asks for no query, and `capacity` for those of its flavors
 abbrev pub answer_by : Command → Bool → Version → List ℕ → World → Outcome
 answer_by command.check detail version query world = written (counts world.sizes) 0
+answer_by (command.capacity flavors) detail version query world = capacity_said version flavors world.providers
 answer_by asks detail version query world = past_query (said_by asks detail world) (token_in asks) version query
 
 -- the answer to a task in a world

@@ -9,10 +9,12 @@ use Rattle.ac_query.specs.Faults.{query_fault}
 use Rattle.ac_query.specs.Laws.Gathered.{asked_by}
 use Rattle.ac_query.specs.Pairs.{pairs_of}
 use Rattle.ac_query.specs.Shown.Faults.{fault_shown}
+use Rattle.ac_query.specs.declared.version.Version.{Version}
 use Rattle.ac_remedies.specs.Queries.{host_remedy, query_remedy, token_remedy}
 use Rattle.ac_remedies.specs.Tables.{record_remedy, size_remedy, unread_remedy}
 use Rattle.ac_run.specs.Wanted.Given.{token_refusal}
-use Rattle.ac_run.specs.Tasks.{Command, Paths, Task, token_in, why}
+use Rattle.ac_run.specs.Flavors.{flavors_refused, why_shown}
+use Rattle.ac_run.specs.Tasks.{Command, Paths, Task, capacity, token_in, why}
 use Rattle.ac_run.specs.declared.refusal.AskRefusal.{AskRefusal}
 use Rattle.ac_run.specs.declared.refusal.AskRefusal.TheVariants as ask
 use Rattle.ac_run.specs.declared.refusal.TablesRefusal.{TablesRefusal}
@@ -66,11 +68,23 @@ abbrev pub token_text : List Provider → Command → Asked → List ℕ
 token_text all command asked =
     text_of (token_refusal asked (token_in command)) (token_remedy (unwrap_or (token_in command) []) asked) (host_text all command)
 
+-- of a table of flavors that is refused
+abbrev pub flavors_text : Version → List ℕ → List ℕ
+flavors_text version flavors = text_of (flavors_refused version flavors) (λ why. why.detail) []
+
 -- of a query that is refused; else of the token
-abbrev pub asked_text : List Provider → Task → List ℕ
-asked_text all task =
+abbrev pub asks_text : List Provider → Task → List ℕ
+asks_text all task =
     text_of (query_fault task.version task.query) (λ f. query_remedy task.version task.query (Some f))
     (token_text all task.command (asked_by task.version (pairs_of task.query)))
+
+-- of what a command asks
+abbrev pub text_asked : Command → List Provider → Task → List ℕ
+text_asked (capacity flavors) all task = flavors_text task.version flavors
+text_asked _ all task = asks_text all task
+
+abbrev pub asked_text : List Provider → Task → List ℕ
+asked_text all task = text_asked task.command all task
 
 -- ---- of a refusal
 
@@ -94,4 +108,5 @@ abbrev pub asked_remedy : Task → AskRefusal → List ℕ
 asked_remedy task (ask.Query f) = query_remedy task.version task.query (fault_shown f)
 asked_remedy task (ask.Token f) = token_remedy (unwrap_or (token_in task.command) []) (asked_by task.version (pairs_of task.query)) f
 asked_remedy task (ask.Host f) = host_remedy (host_in task.command) f
+asked_remedy task (ask.Flavors f) = (why_shown f).detail
 asked_remedy task ask.NoMemory = []

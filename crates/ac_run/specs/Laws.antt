@@ -1,9 +1,14 @@
 -- What holds of all that tables state and texts ask for.
-use Rattle.std.specs.Prelude.{◌≡◌, ℕ, List}
+use Rattle.std.specs.Prelude.{◌≡◌, ℕ, List, []}
+use Rattle.ac_cloud.specs.World.{Provider}
+use Rattle.ac_fill.specs.Bounds.{most_placed}
+use Rattle.ac_query.specs.Asked.{Asked}
 use Rattle.ac_query.specs.declared.version.Version.{Version}
 use Rattle.ac_query.specs.Laws.Gathered.{asked_by}
+use Rattle.ac_rules.specs.Pages.{candidates}
 use Rattle.ac_report.specs.Pages.{IsAssignment}
 use Rattle.ac_report.specs.Trees.{request}
+use Rattle.ac_run.specs.Capacity.{hosts_fitting, placed_first}
 use Rattle.ac_tables.specs.Tables.{Tables, world_stated}
 
 -- two assignments with one request are the same, of the providers that tables state and for what pairs ask for, be they accepted or not
@@ -12,3 +17,13 @@ StatedRequestsDiffer = (tables : Tables) (version : Version) (pairs : List (List
     → IsAssignment (world_stated tables).providers (asked_by version pairs) t
     → IsAssignment (world_stated tables).providers (asked_by version pairs) u
     → request (world_stated tables).providers (asked_by version pairs) t ≡ request (world_stated tables).providers (asked_by version pairs) u → t ≡ u
+
+-- A query fits at no root exactly where it has no candidate; and then nothing can be placed.
+pub record NoHostNoCandidate (all : List Provider) (asked : Asked) : Type 0 where
+  pub none : hosts_fitting all asked ≡ 0 → candidates all asked ≡ []
+  pub nowhere : candidates all asked ≡ [] → hosts_fitting all asked ≡ 0
+  pub least : candidates all asked ≡ [] → placed_first all asked ≡ 0
+  pub most : candidates all asked ≡ [] → most_placed all asked ≡ 0
+
+abbrev pub HostsAreThere : Type 0
+HostsAreThere = (all : List Provider) (asked : Asked) → NoHostNoCandidate all asked

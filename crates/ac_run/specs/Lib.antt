@@ -1,7 +1,9 @@
 pub mod Lines
 pub mod Refusals
 pub mod Feeds
+pub mod Flavors
 pub mod Tasks
+pub mod Capacity
 pub mod Details
 pub mod Wanted
 pub mod Outputs

@@ -18,9 +18,12 @@ unreadable_line t = said (table_name t ∷ codes ": Unreadable\n" ∷ [])
 unfoldable pub too_large_line : Table → List ℕ
 too_large_line t = said (table_name t ∷ codes ": TooLarge\n" ∷ [])
 
--- what is wrong with a record of a table
+-- what is wrong with a record of a table, by their names
+abbrev pub line_at : List ℕ → ℕ → List ℕ → List ℕ
+line_at table row name = said (table ∷ codes ": record " ∷ decimal row ∷ codes ": " ∷ name ∷ newline ∷ [])
+
 unfoldable pub record_line : Table → ℕ → TableKind → List ℕ
-record_line t row k = said (table_name t ∷ codes ": record " ∷ decimal row ∷ codes ": " ∷ kind_name k ∷ newline ∷ [])
+record_line t row k = line_at (table_name t) row (kind_name k)
 
 -- what is wrong with a pair of a query, with one of its groups, with the whole
 unfoldable pub pair_line : ℕ → List ℕ → List ℕ

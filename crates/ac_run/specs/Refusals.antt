@@ -3,6 +3,7 @@ use Rattle.std.specs.Prelude.{◌≡◌, ℕ, List, ◌++◌, Option, Some, None
 use Rattle.std.specs.Global.{Vec}
 use Rattle.ac_query.specs.Faults.{Fault}
 use Rattle.ac_query.specs.Shown.Faults.{fault_shown}
+use Rattle.ac_run.specs.Flavors.{query_told, why_shown}
 use Rattle.ac_run.specs.Lines.{unreadable_line, too_large_line, record_line, query_line, token_line, host_line, memory_line, output_line, tries_line}
 use Rattle.ac_run.specs.declared.refusal.AskRefusal.{AskRefusal}
 use Rattle.ac_run.specs.declared.refusal.AskRefusal.TheVariants as ask
@@ -11,11 +12,6 @@ use Rattle.ac_run.specs.declared.refusal.Refusal.TheVariants as why
 use Rattle.ac_run.specs.declared.refusal.Refused.{Refused}
 use Rattle.ac_run.specs.declared.refusal.TablesRefusal.{TablesRefusal}
 use Rattle.ac_run.specs.declared.refusal.TablesRefusal.TheVariants as tables
-
--- the line of a query's fault; want of memory is told as everywhere
-abbrev pub line_of_query : Option Fault → List ℕ
-line_of_query (Some fault) = query_line fault
-line_of_query None = memory_line
 
 -- ---- of the tables
 
@@ -32,15 +28,17 @@ status_of_tables _ = 3
 -- ---- of what is asked
 
 abbrev pub line_of_asked : AskRefusal → List ℕ
-line_of_asked (ask.Query fault) = line_of_query (fault_shown fault)
+line_of_asked (ask.Query fault) = query_told (fault_shown fault)
 line_of_asked (ask.Token fault) = token_line fault
 line_of_asked (ask.Host fault) = host_line fault
+line_of_asked (ask.Flavors f) = (why_shown f).line
 line_of_asked ask.NoMemory = memory_line
 
 abbrev pub status_of_asked : AskRefusal → ℕ
 status_of_asked (ask.Query fault) = 4
 status_of_asked (ask.Token fault) = 5
 status_of_asked (ask.Host fault) = 5
+status_of_asked (ask.Flavors f) = 4
 status_of_asked ask.NoMemory = 7
 
 -- ---- of all

@@ -1,5 +1,5 @@
 -- Which searches may stop before their end, by the tries that they may make.
-use Rattle.std.specs.Prelude.{ℕ, List, Option, None}
+use Rattle.std.specs.Prelude.{Contains, ℕ, List, Option, None, map}
 use Rattle.std.specs.Option.{option_map}
 use Rattle.ac_cloud.specs.World.{Provider}
 use Rattle.ac_query.specs.Asked.{Asked}
@@ -7,9 +7,11 @@ use Rattle.ac_query.specs.Laws.Gathered.{asked_by}
 use Rattle.ac_query.specs.Pairs.{pairs_of}
 use Rattle.ac_query.specs.Shown.Queries.{asked_of}
 use Rattle.ac_query.specs.Tokens.{ids_of}
+use Rattle.ac_query.specs.declared.version.Version.{Version}
 use Rattle.ac_report.specs.Findings.Explanation.Candidates.{ExplanationMayStop}
 use Rattle.ac_run.specs.Answer.{ids_given}
 use Rattle.ac_run.specs.Feeds.{Bytes}
+use Rattle.ac_run.specs.Flavors.{Plan, plan_shown, plans_of}
 use Rattle.ac_run.specs.Tasks.{Command, Task}
 use Rattle.ac_run.specs.Tasks as command
 use Rattle.ac_run.specs.Wanted.Given.{tables_in}
@@ -18,21 +20,26 @@ use Rattle.ac_run.specs.declared.wanted.Wanted.TheVariants as wanted
 use Rattle.ac_search.specs.Shown.Walk.{MayStop}
 use Rattle.ac_tables.specs.Tables.{world_stated}
 
--- a search of a command may stop, with so many tries
-abbrev pub SearchMayStop : Command → Option ℕ → List Provider → Asked → Type 0
-SearchMayStop command.check tries all asked = ⊥
-SearchMayStop (command.candidates after traits) tries all asked = MayStop tries all asked (ids_given after)
-SearchMayStop (command.tokens after) tries all asked = MayStop tries all asked (ids_given after)
-SearchMayStop (command.list after traits) tries all asked = MayStop tries all asked (ids_given after)
-SearchMayStop (command.fill sum) tries all asked = MayStop tries all asked None
-SearchMayStop (command.verify token) tries all asked = ⊥
-SearchMayStop command.explain tries all asked = ExplanationMayStop tries all asked
-SearchMayStop (command.hosts sum within) tries all asked = MayStop tries all asked None
-SearchMayStop (command.why host) tries all asked = MayStop tries all asked None
+-- a search of one of some flavors may stop
+abbrev pub OneMayStop : Option ℕ → List Provider → List Plan → Type 0
+OneMayStop tries all plans = (plan : Plan) × Contains plans plan × MayStop tries all plan.asked None
+
+-- a search of a command may stop, with so many tries, where a version reads its queries
+abbrev pub SearchMayStop : Command → Version → Option ℕ → List Provider → Asked → Type 0
+SearchMayStop command.check version tries all asked = ⊥
+SearchMayStop (command.candidates after traits) version tries all asked = MayStop tries all asked (ids_given after)
+SearchMayStop (command.tokens after) version tries all asked = MayStop tries all asked (ids_given after)
+SearchMayStop (command.list after traits) version tries all asked = MayStop tries all asked (ids_given after)
+SearchMayStop (command.fill sum) version tries all asked = MayStop tries all asked None
+SearchMayStop (command.verify token) version tries all asked = ⊥
+SearchMayStop command.explain version tries all asked = ExplanationMayStop tries all asked
+SearchMayStop (command.hosts sum within) version tries all asked = MayStop tries all asked None
+SearchMayStop (command.why host) version tries all asked = MayStop tries all asked None
+SearchMayStop (command.capacity flavors) version tries all asked = OneMayStop tries all (plans_of version flavors)
 
 -- a search of a task may stop, over the bytes of five tables
 abbrev pub TaskMayStop : Task → Bytes → Type 0
-TaskMayStop task b = SearchMayStop task.command task.tries (world_stated (tables_in b)).providers (asked_by task.version (pairs_of task.query))
+TaskMayStop task b = SearchMayStop task.command task.version task.tries (world_stated (tables_in b)).providers (asked_by task.version (pairs_of task.query))
 
 -- a search for what is wanted may stop, with so many tries
 abbrev pub AnswerMayStop : Wanted → Option ℕ → List Provider → Type 0
@@ -45,3 +52,4 @@ AnswerMayStop (wanted.Verdict query token detail) tries all = ⊥
 AnswerMayStop (wanted.Explanation question) tries all = ExplanationMayStop tries all (asked_of question.query)
 AnswerMayStop (wanted.Hosts query sum within) tries all = MayStop tries all (asked_of query) None
 AnswerMayStop (wanted.Why query host) tries all = MayStop tries all (asked_of query) None
+AnswerMayStop (wanted.Capacity plans) tries all = OneMayStop tries all (map plan_shown plans.items)

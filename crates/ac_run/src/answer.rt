@@ -20,6 +20,7 @@ ghost use Rattle.ac_run.specs.Stops.{AnswerMayStop};
 ghost use Rattle.ac_report.specs.Findings.Explanation.Candidates.{ExplanationMayStop};
 ghost use Rattle.ac_search.specs.Shown.Walk.{MayStop};
 
+use crate::capacity::write_capacity;
 use crate::outputs::{detailed_line, push_counts, push_text, push_verdict, verdict_status};
 use crate::placements::write_fill;
 use crate::wanted::Wanted;
@@ -353,5 +354,6 @@ pub fn write_answer<W: Sink>(
             write_hosts(alloc, cloud, query, *sum, *within, tries, out)
         }
         Wanted::Why(query, host) => write_why(alloc, cloud, query, *host, tries, out),
+        Wanted::Capacity(plans) => write_capacity(alloc, cloud, plans, tries, out),
     }
 }

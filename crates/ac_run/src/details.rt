@@ -1,6 +1,7 @@
 //! What stands behind the line of a refusal where more is told: what is to be done.
 ghost use Rattle.std.specs.Prelude.{◌≡◌, IfOk, None};
 ghost use Rattle.ac_run.specs.Details.{asked_remedy, behind, fault_remedy, host_in, path_in, reading_remedy};
+ghost use Rattle.ac_run.specs.Flavors.{why_shown};
 ghost use Rattle.ac_run.specs.Feeds.Draining.{texts_shown};
 ghost use Rattle.ac_run.specs.Feeds.{too_large};
 ghost use Rattle.ac_run.specs.Wanted.Given.{tables_in};
@@ -10,7 +11,9 @@ ghost use Rattle.ac_run.specs.Tasks.{command_shown, detail_shown, paths_shown, t
 use crate::inputs::Texts;
 use crate::job::{Command, Job, Paths};
 use crate::ready::sources_of;
-use crate::refusal::{AskRefusal, TablesRefusal};
+use crate::refusal::lines::push_query_line;
+use crate::refusal::{AskRefusal, FlavorsRefusal, TablesRefusal};
+use ac_base::ToWrite;
 use ac_query::{Query, TokenFault};
 use ac_remedies::{
     host_remedy, query_remedy, record_remedy, size_remedy, token_remedy, unread_remedy,
@@ -94,6 +97,18 @@ fn host_of<'a>(command: Command<'a>) -> &'a str
     }
 }
 
+// Of a table of flavors: the line of its query's fault.
+fn flavors_detail(alloc: Global, refusal: &FlavorsRefusal) -> Result<Vec<u8>, AllocError>
+    ensures text { IfOk result (λ text. text.items ≡ (why_shown refusal.now).detail) }
+{
+    let mut text = ToWrite::new(Vec::new(alloc));
+    if let FlavorsRefusal::Query { row: _, fault } = refusal {
+        // A vector refuses bytes for want of memory alone.
+        push_query_line(&mut text, fault).map_err(|_| AllocError)?;
+    }
+    Ok(text.into_inner())
+}
+
 /// Of what is asked and refused.
 pub(crate) fn asked_detail(
     alloc: Global,
@@ -110,6 +125,7 @@ pub(crate) fn asked_detail(
         AskRefusal::Query(fault) => query_remedy(alloc, job.query, job.version, fault),
         AskRefusal::Token(fault) => token_detail(alloc, job, *fault),
         AskRefusal::Host(fault) => host_remedy(alloc, host_of(job.command), *fault),
+        AskRefusal::Flavors(refusal) => flavors_detail(alloc, refusal),
         AskRefusal::NoMemory => Ok(Vec::new(alloc)),
     }
 }

@@ -44,15 +44,19 @@ pub enum Command<'a> {
     Why {
         host: &'a str,
     },
+    /// Writes for each flavor of a table at how many hosts it fits, how many of it can be placed, and what is short.
+    Capacity {
+        flavors: &'a [u8],
+    },
 }
 
 /// What is to be done, for which query.
 #[derive(Clone, Copy)]
 pub struct Job<'a> {
     pub command: Command<'a>,
-    /// What is asked for; empty for `Check`.
+    /// What is asked for; empty for `Check` and `Capacity`.
     pub query: &'a str,
-    /// The microversion of the API by which the query is read; for `Check` it says nothing.
+    /// The microversion of the API by which queries are read; for `Check` it says nothing.
     pub version: Version,
     /// How many tries each search may make; without a number, as many as it takes.
     pub tries: Option<u64>,

@@ -1,9 +1,15 @@
 //! What holds of all that tables state and texts ask for: each function's contract is a law, and no program calls it.
-ghost use Rattle.ac_run.specs.Laws.{StatedRequestsDiffer};
+ghost use Rattle.ac_run.specs.Laws.{HostsAreThere, StatedRequestsDiffer};
 
 /// Two different assignments have different requests, over the providers that any tables state and for what any pairs ask for, so
 /// over each cloud and for each query that is accepted.
 #[tactic(auto, using(crate::proofs::StatedRequests::stated_requests_differ))]
 pub fn stated_requests_differ()
     ensures { StatedRequestsDiffer }
+{}
+
+/// A query fits at no root exactly where it has no candidate; and then nothing can be placed.
+#[tactic(auto, using(crate::proofs::HostsThere::hosts_are_there))]
+pub fn hosts_are_there()
+    ensures { HostsAreThere }
 {}

@@ -4,7 +4,9 @@
 #![tactic(auto)]
 
 mod answer;
+mod capacity;
 mod details;
+mod flavors;
 mod inputs;
 pub mod job;
 pub mod laws;
@@ -17,12 +19,13 @@ pub mod run_job;
 mod wanted;
 
 pub use answer::write_answer;
+pub use flavors::Plan;
 pub use inputs::Inputs;
 pub use job::{Command, Job, Paths};
 pub use outputs::push_verdict;
 pub use placements::fill_status;
 pub use ready::read_inputs;
 pub use refusal::lines::{asked_status, push_asked_line, tell};
-pub use refusal::{AskRefusal, Refusal, Refused, TablesRefusal};
+pub use refusal::{AskRefusal, FlavorsRefusal, Refusal, Refused, TablesRefusal};
 pub use run_job::run;
 pub use wanted::{Wanted, read_query, read_token, read_wanted};

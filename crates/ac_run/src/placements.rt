@@ -1,10 +1,14 @@
 //! Placements one after another, each written with its status: their tokens, or how many there are.
 
-ghost use Rattle.std.specs.Prelude.{◌≡◌, ◌≤◌, ℕ, List, Err, false, IfOk, None, string_bytes, true};
+ghost use Rattle.std.specs.Prelude.{◌≡◌, ◌≤◌, ℕ, List, Err, false, IfOk, None, map, string_bytes, true};
 ghost use Rattle.ac_cloud.specs.Cloud.CloudWorld.{providers_of};
+ghost use Rattle.ac_fill.specs.Bounds.{most_placed, shorts};
 ghost use Rattle.ac_fill.specs.Filled.{asks_units};
+ghost use Rattle.ac_fill.specs.Found.{short_entry};
+ghost use Rattle.ac_prune.specs.Fitting.{fitting};
 ghost use Rattle.ac_query.specs.Shown.Queries.{asked_of};
 ghost use Rattle.ac_run.specs.Answer.{fills};
+ghost use Rattle.ac_run.specs.Capacity.{placed_first};
 ghost use Rattle.ac_run.specs.Outputs.{counted, fill_status};
 ghost use Rattle.ac_run.specs.Run.{Delivers};
 ghost use Rattle.ac_search.specs.Shown.Walk.{MayStop};
@@ -47,8 +51,48 @@ fn write_placements<W: Sink>(
     Ok(fill_status(query.limit(), filled.count))
 }
 
+/// How much of a query a cloud holds: how many placements there are by first fit, at which providers it fits as roots, and the bound.
+#[derive(Drop)]
+pub(crate) struct Holding<'a> {
+    pub(crate) least: u32,
+    pub(crate) fits: Vec<bool>,
+    pub(crate) bound: Bound<'a>,
+}
+
+impl<'a> Holding<'a> {
+    /// Finds it, each search in so many tries.
+    #[tactic(auto, using(ac_fill::proofs::Ordered::all_rest))]
+    pub(crate) fn find(
+        alloc: Global,
+        cloud: &Cloud,
+        query: &'a Query,
+        tries: Option<u64>,
+    ) -> Result<Holding<'a>, SearchFault>
+        requires { asks_units (asked_of query.now) ≡ true }
+        ensures least { IfOk result (λ holding. holding.least
+            ≡ placed_first (providers_of cloud.now) (asked_of query.now)) }
+        ensures fits { IfOk result (λ holding. holding.fits.items
+            ≡ fitting (providers_of cloud.now) (asked_of query.now)) }
+        ensures most { IfOk result (λ holding. holding.bound.most
+            ≡ most_placed (providers_of cloud.now) (asked_of query.now)) }
+        ensures shorts { IfOk result (λ holding. map short_entry holding.bound.shorts.items
+            ≡ shorts (providers_of cloud.now) (asked_of query.now)) }
+        ensures stopped { result ≡ Err fault.TooManyTries
+            → MayStop tries (providers_of cloud.now) (asked_of query.now) None }
+    {
+        let mut source = walk_after(alloc, cloud, query, &None, tries)?;
+        let filled = count_filled(alloc, cloud, query, None, &mut source)?;
+        let fits = fitting_roots(alloc, cloud, query, tries)?;
+        let bound = Bound::new(alloc, cloud, query, &fits)?;
+        Ok(Holding {
+            least: filled.count,
+            fits,
+            bound,
+        })
+    }
+}
+
 // The line of the sum, with its status.
-#[tactic(auto, using(ac_fill::proofs::Ordered::all_rest))]
 fn sum_of(
     alloc: Global,
     cloud: &Cloud,
@@ -64,12 +108,9 @@ fn sum_of(
     ensures stopped { result ≡ Err fault.TooManyTries
         → MayStop tries (providers_of cloud.now) (asked_of query.now) None }
 {
-    let mut source = walk_after(alloc, cloud, query, &None, tries)?;
-    let filled = count_filled(alloc, cloud, query, None, &mut source)?;
-    let fits = fitting_roots(alloc, cloud, query, tries)?;
-    let bound = Bound::new(alloc, cloud, query, &fits)?;
-    let line = sum_line(alloc, filled.count, &bound)?;
-    Ok((line, fill_status(None, filled.count)))
+    let holding = Holding::find(alloc, cloud, query, tries)?;
+    let line = sum_line(alloc, holding.least, &holding.bound)?;
+    Ok((line, fill_status(None, holding.least)))
 }
 
 // How many placements there are.

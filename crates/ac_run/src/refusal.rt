@@ -6,7 +6,7 @@ pub mod lines;
 use ac_cloud::HostFault;
 use ac_query::{QueryFault, TokenFault};
 use ac_tables::{Table, TableKind};
-use std::alloc::{AllocError, Global};
+use std::alloc::{AllocError, AllocFailed, Global};
 
 /// Why the tables are no cloud.
 #[derive(Debug, Drop)]
@@ -34,8 +34,45 @@ pub enum AskRefusal {
     Token(TokenFault),
     /// Why no provider is named.
     Host(HostFault),
+    /// What is wrong with the table of flavors.
+    Flavors(FlavorsRefusal),
     /// A growth was refused.
     NoMemory,
+}
+
+impl From<AllocError> for AskRefusal {
+    ghost use Rattle.ac_run.specs.declared.refusal.AskRefusal.TheVariants.{NoMemory as refused};
+
+    ghost from_gives = { λ _ told. told ≡ refused };
+
+    fn from(_error: AllocError) -> AskRefusal {
+        AskRefusal::NoMemory
+    }
+}
+
+impl<T: Drop> From<AllocFailed<T>> for AskRefusal {
+    ghost use Rattle.ac_run.specs.declared.refusal.AskRefusal.TheVariants.{NoMemory as refused};
+
+    ghost from_gives = { λ _ told. told ≡ refused };
+
+    fn from(_error: AllocFailed<T>) -> AskRefusal {
+        AskRefusal::NoMemory
+    }
+}
+
+/// What is wrong with a table of flavors. Records are numbered from 1, the header is the first.
+#[derive(Debug, Drop)]
+pub enum FlavorsRefusal {
+    /// Its bytes can't be had.
+    Unreadable,
+    /// It has more bytes than it may.
+    TooLarge,
+    /// What is wrong with a record.
+    Record { row: u32, kind: TableKind },
+    /// The query of a record isn't UTF-8.
+    NotText { row: u32 },
+    /// What is wrong with the query of a record.
+    Query { row: u32, fault: QueryFault },
 }
 
 /// Why there is no answer.

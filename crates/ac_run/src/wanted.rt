@@ -20,6 +20,7 @@ ghost use Rattle.ac_run.specs.Stops.{AnswerMayStop, SearchMayStop};
 ghost use Rattle.ac_run.specs.Tasks.{command_shown, task_of, token_in};
 ghost use Rattle.ac_run.specs.Wanted.{ExplainsHost, ExplainsQuery, ExplainsRest, ExplainsToken, ExplainsWanted, IsSound, answer_to, details_in};
 
+use crate::flavors::{Plan, read_plans};
 use crate::job::{Command, Job};
 use crate::refusal::AskRefusal;
 use ac_base::NoMemory;
@@ -49,6 +50,8 @@ pub enum Wanted {
     Hosts(Query, bool, Option<u128>),
     /// How far a query comes in the tree of a provider, which stands at this place.
     Why(Query, u32),
+    /// How many of each flavor the cloud can hold.
+    Capacity(Vec<Plan>),
 }
 
 /// The query of a text, as a version reads it. Want of memory is a refusal of its own.
@@ -130,8 +133,8 @@ fn wanted_of(alloc: Global, job: &Job, cloud: &Cloud, query: Query) -> Result<Wa
     ensures note { IfOk result (λ wanted. note_to wanted (world_of cloud.now)
         ≡ noted_by (command_shown job.now.command) (world_of cloud.now) (asked_of query)) }
     ensures stops { IfOk result (λ wanted. AnswerMayStop wanted job.now.tries
-        (providers_of cloud.now) → SearchMayStop (command_shown job.now.command) job.now.tries
-        (providers_of cloud.now) (asked_of query)) }
+        (providers_of cloud.now) → SearchMayStop (command_shown job.now.command) job.now.version
+        job.now.tries (providers_of cloud.now) (asked_of query)) }
     ensures fault { IfErr result (ExplainsRest (providers_of cloud.now)
         (command_shown job.now.command) (asked_of query)) }
 {
@@ -157,6 +160,7 @@ fn wanted_of(alloc: Global, job: &Job, cloud: &Cloud, query: Query) -> Result<Wa
         Command::Explain => Ok(Wanted::Explanation(read_question(alloc, query, job)?)),
         Command::Hosts { sum, within } => Ok(Wanted::Hosts(query, sum, within)),
         Command::Why { host } => Ok(Wanted::Why(query, find_host(cloud, host)?)),
+        Command::Capacity { .. } => Ok(Wanted::Capacity(Vec::new(alloc))),
     }
 }
 
@@ -169,12 +173,15 @@ pub fn read_wanted(alloc: Global, job: &Job, cloud: &Cloud) -> Result<Wanted, As
         ≡ noted_by (command_shown job.now.command) (world_of cloud.now)
         (asked_by job.now.version (pairs_of job.now.query.now))) }
     ensures stops { IfOk result (λ wanted. AnswerMayStop wanted job.now.tries
-        (providers_of cloud.now) → SearchMayStop (command_shown job.now.command) job.now.tries
-        (providers_of cloud.now) (asked_by job.now.version (pairs_of job.now.query.now))) }
+        (providers_of cloud.now) → SearchMayStop (command_shown job.now.command) job.now.version
+        job.now.tries (providers_of cloud.now) (asked_by job.now.version (pairs_of job.now.query.now))) }
     ensures fault { IfErr result (ExplainsWanted (task_of job.now) (world_of cloud.now)) }
 {
     match job.command {
         Command::Check => Ok(Wanted::Counts),
+        Command::Capacity { flavors } => {
+            Ok(Wanted::Capacity(read_plans(alloc, flavors, job.version)?))
+        }
         _ => {
             let query = read_query(alloc, job.query, job.version)?;
             Ok(wanted_of(alloc, job, cloud, query)?)

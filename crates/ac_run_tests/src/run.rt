@@ -179,7 +179,7 @@ const TOKENS: Case = Case {
 };
 
 // An answer of each command over one provider.
-static ANSWERS: [Case; 10] = [
+static ANSWERS: [Case; 11] = [
     Case {
         output: "@1\n",
         ..TOKENS
@@ -247,6 +247,13 @@ static ANSWERS: [Case; 10] = [
         output: "@1\n@1\n",
         ..TOKENS
     },
+    Case {
+        command: Command::Capacity {
+            flavors: b"flavor,query\na,resources=VCPU:3\n",
+        },
+        output: "flavor,hosts,at_least,at_most,wanted,short_of,short_at\na,1,2,2,1,VCPU,1\n",
+        ..TOKENS
+    },
 ];
 
 // The token or the host of a command.
@@ -279,6 +286,7 @@ fn with_text<'a>(command: Command<'static>, text: Option<&'a str>) -> Command<'a
         Command::Why { .. } => Command::Why {
             host: text.unwrap_or(""),
         },
+        Command::Capacity { flavors } => Command::Capacity { flavors },
     }
 }
 

@@ -70,19 +70,20 @@ explanation_none all asked may = elim may [
   | inr without ↦ elim without [ inl subtree ↦ subtree.2 | inr rest ↦ elim rest [ inl policy ↦ policy | inr required ↦ required ] ]
 ]
 
-search_none : (asks : Command) (all : List Provider) (asked : Query) → SearchMayStop asks None all asked → ⊥
-search_none command.check all asked may = may
-search_none (command.candidates after traits) all asked may = may
-search_none (command.tokens after) all asked may = may
-search_none (command.list after traits) all asked may = may
-search_none (command.fill sum) all asked may = may
-search_none (command.verify token) all asked may = may
-search_none command.explain all asked may = explanation_none all asked may
-search_none (command.hosts sum within) all asked may = may
-search_none (command.why host) all asked may = may
+search_none : (asks : Command) (version : Version) (all : List Provider) (asked : Query) → SearchMayStop asks version None all asked → ⊥
+search_none command.check version all asked may = may
+search_none (command.candidates after traits) version all asked may = may
+search_none (command.tokens after) version all asked may = may
+search_none (command.list after traits) version all asked may = may
+search_none (command.fill sum) version all asked may = may
+search_none (command.verify token) version all asked may = may
+search_none command.explain version all asked may = explanation_none all asked may
+search_none (command.hosts sum within) version all asked may = may
+search_none (command.why host) version all asked may = may
+search_none (command.capacity flavors) version all asked may = may.2
 
 asked_none : (version : Version) (world : World) (asked : Asked) → AskedMayStop None version world asked → ⊥
-asked_none version world (job task) may = search_none task.command world.providers _ may.0
+asked_none version world (job task) may = search_none task.command task.version world.providers _ may.0
 asked_none version world (fill query) may = may.0
 asked_none version world (claim query token) may = may
 asked_none version world (release query token) may = may

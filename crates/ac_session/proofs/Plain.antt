@@ -17,7 +17,13 @@ use Rattle.ac_query.specs.declared.fault.QueryFault.TheVariants as query
 use Rattle.ac_query.specs.Shown.Faults.{fault_shown}
 use Rattle.ac_query.specs.declared.token.TokenFault.TheVariants as token
 use Rattle.ac_run.specs.Lines.{group_line, host_line, memory_line, pair_line, query_line, token_line}
-use Rattle.ac_run.specs.Refusals.{line_of_asked, line_of_query}
+use Rattle.ac_run.specs.Flavors.{flavor_line, flavors_name, large_line, query_name, query_told, unread_line, why_shown}
+use Rattle.ac_run.specs.Refusals.{line_of_asked}
+use Rattle.ac_run.specs.declared.refusal.FlavorsRefusal.{FlavorsRefusal}
+use Rattle.ac_run.specs.declared.refusal.FlavorsRefusal.TheVariants as flavors
+use Rattle.ac_tables.specs.Tables.Names.{kind_name}
+use Rattle.ac_tables.specs.declared.fault.TableKind.{TableKind}
+use Rattle.ac_tables.specs.declared.fault.TableKind.TheVariants as kind
 use Rattle.ac_run.specs.declared.refusal.AskRefusal.{AskRefusal}
 use Rattle.ac_run.specs.declared.refusal.AskRefusal.TheVariants as ask
 use Rattle.ac_session.proofs.Leading.Firsts.{before_next}
@@ -119,7 +125,7 @@ unfolding group_line
 group_one suffix name s p =
     line_behind {a = codes "query: group \""} (plain refl) (line_behind s (line_behind {a = codes "\": "} (plain refl) (line_behind p (line_end {a = []} (plain refl)))))
 
-query_one : (f : QueryFault) → IsLine (line_of_query (fault_shown f))
+query_one : (f : QueryFault) → IsLine (query_told (fault_shown f))
 unfolding query_line memory_line
 query_one query.QueryTooLong = line_end {a = codes "query: QueryTooLong"} (plain refl)
 query_one (query.UnknownParameter n) = pair_one n (codes "UnknownParameter") (plain refl)
@@ -133,6 +139,40 @@ query_one query.PolicyMissing = line_end {a = codes "query: PolicyMissing"} (pla
 query_one query.TooManySlots = line_end {a = codes "query: TooManySlots"} (plain refl)
 query_one query.NoMemory = line_end {a = codes "out of memory"} (plain refl)
 
+flavor_one : (row : ℕ) (name : List ℕ) → IsPlain name → IsLine (flavor_line row name)
+unfolding flavor_line flavors_name
+flavor_one row name p =
+    line_behind {a = flavors_name} (plain refl) (line_behind {a = codes ": record "} (plain refl) (line_behind (plain_number row) (line_behind {a = codes ": "} (plain refl) (line_behind p (line_end {a = []} (plain refl))))))
+
+plain_kind : (k : TableKind) → IsPlain (kind_name k)
+unfolding kind_name
+plain_kind kind.NoHeader = plain refl
+plain_kind kind.MissingColumn = plain refl
+plain_kind kind.DoubleColumn = plain refl
+plain_kind kind.Width = plain refl
+plain_kind kind.BadUuid = plain refl
+plain_kind kind.BadClass = plain refl
+plain_kind kind.BadTrait = plain refl
+plain_kind kind.BadNumber = plain refl
+plain_kind kind.BadRatio = plain refl
+plain_kind kind.ZeroStep = plain refl
+plain_kind kind.ReservedOverTotal = plain refl
+plain_kind kind.Duplicate = plain refl
+plain_kind kind.UnknownProvider = plain refl
+plain_kind kind.NoInventory = plain refl
+plain_kind kind.TooManyProviders = plain refl
+plain_kind kind.UnknownParent = plain refl
+plain_kind kind.ParentCycle = plain refl
+plain_kind kind.WrongRoot = plain refl
+
+flavors_one : (refusal : FlavorsRefusal) → IsLine (why_shown refusal).line
+unfolding unread_line large_line query_name
+flavors_one flavors.Unreadable = line_end {a = codes "flavors: Unreadable"} (plain refl)
+flavors_one flavors.TooLarge = line_end {a = codes "flavors: TooLarge"} (plain refl)
+flavors_one (flavors.Record row k) = flavor_one row (kind_name k) (plain_kind k)
+flavors_one (flavors.NotText row) = flavor_one row (codes "BadQuery") (plain refl)
+flavors_one (flavors.Query row f) = flavor_one row (codes "BadQuery") (plain refl)
+
 -- what is asked and refused is told in one line
 pub refusal_one : (refusal : AskRefusal) → IsLine (line_of_asked refusal)
 unfolding token_line host_line memory_line
@@ -142,4 +182,5 @@ refusal_one (ask.Token token.WrongLength) = line_end {a = codes "token: WrongLen
 refusal_one (ask.Token token.NoMemory) = line_end {a = codes "out of memory"} (plain refl)
 refusal_one (ask.Host host.Unknown) = line_end {a = codes "host: Unknown"} (plain refl)
 refusal_one (ask.Host host.Ambiguous) = line_end {a = codes "host: Ambiguous"} (plain refl)
+refusal_one (ask.Flavors f) = flavors_one f
 refusal_one ask.NoMemory = line_end {a = codes "out of memory"} (plain refl)

@@ -67,12 +67,14 @@ not_refused (wanted.Verdict query token detail) tries world may = absurd may
 not_refused (wanted.Explanation question) tries world may = refl
 not_refused (wanted.Hosts query sum within) tries world may = refl
 not_refused (wanted.Why query host) tries world may = refl
+not_refused (wanted.Capacity plans) tries world may = refl
 
 pub query_refused : (version : Version) (query : List ℕ) (refusal : AskRefusal) → ExplainsQuery (query_fault version query) refusal
     → (say : Says) (token : Option (List ℕ)) → IsRefusal refusal (past_query say token version query)
 query_refused version query (ask.Query f) h say token told = rw (h.2, h.1) refl
 query_refused version query (ask.Token f) h say token told = absurd h
 query_refused version query (ask.Host f) h say token told = absurd h
+query_refused version query (ask.Flavors f) h say token told = absurd h
 query_refused version query ask.NoMemory h say token told = absurd (told refl)
 
 pub token_refused : (version : Version) (query token : List ℕ) (asked : Asked) (refusal : AskRefusal) → query_fault version query ≡ None → asked ≡ asked_by version (pairs_of query)
@@ -80,18 +82,21 @@ pub token_refused : (version : Version) (query token : List ℕ) (asked : Asked)
 token_refused version query token asked (ask.Token f) q e h say told = rw (q, ← e, h) refl
 token_refused version query token asked (ask.Query f) q e h say told = absurd h
 token_refused version query token asked (ask.Host f) q e h say told = absurd h
+token_refused version query token asked (ask.Flavors f) q e h say told = absurd h
 token_refused version query token asked ask.NoMemory q e h say told = absurd (told refl)
 
 pub wanted_refused : (task : Task) (world : World) (refusal : AskRefusal) → ExplainsWanted task world refusal → IsRefusal refusal (answer_in task world)
 wanted_refused task world (ask.Query f) h told = asks_query task.command _ task.version task.query world h.0 ∙ rw (h.1.2, h.1.1) refl
 wanted_refused task world (ask.Token f) h told = asks_query task.command _ task.version task.query world h.0 ∙ rw (h.1, h.2) refl
 wanted_refused task world (ask.Host f) h told = asks_query task.command _ task.version task.query world h.0 ∙ rw (h.1, h.2.1, h.2.2) refl
+wanted_refused task world (ask.Flavors f) h told = rw (h.1, h.2) refl
 wanted_refused task world ask.NoMemory h told = absurd (told refl)
 
 refused_status : (refusal : AskRefusal) (most : ℕ) → most ≤ 1 → nat_le (status_of_asked refusal) most ≡ false
 refused_status (ask.Query f) most h = lt-leb 4 most (omega (arith, h))
 refused_status (ask.Token f) most h = lt-leb 5 most (omega (arith, h))
 refused_status (ask.Host f) most h = lt-leb 5 most (omega (arith, h))
+refused_status (ask.Flavors f) most h = lt-leb 4 most (omega (arith, h))
 refused_status ask.NoMemory most h = lt-leb 7 most (omega (arith, h))
 
 -- nothing changes behind a refusal

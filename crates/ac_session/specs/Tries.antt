@@ -18,7 +18,7 @@ use Rattle.ac_session.specs.Turns.{Turn, answers, lines_in, output_of, session_t
 -- A search of a task may stop, with so many tries, where nothing of it is refused.
 abbrev pub JobMayStop : Option ℕ → World → Task → Type 0
 JobMayStop tries world task =
-    SearchMayStop task.command tries world.providers (asked_by task.version (pairs_of task.query)) × ((answer_in task world).line ≡ [])
+    SearchMayStop task.command task.version tries world.providers (asked_by task.version (pairs_of task.query)) × ((answer_in task world).line ≡ [])
 
 -- the search for placements
 abbrev pub FillMayStop : Option ℕ → Version → World → Text → Type 0

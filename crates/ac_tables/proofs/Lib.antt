@@ -8,4 +8,5 @@ mod Literals
 pub mod UsageRows
 pub mod StatedWorld
 pub mod ProvidersStated
+pub mod FlavorFaults
 pub mod FoundRows

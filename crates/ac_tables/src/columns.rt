@@ -28,6 +28,12 @@ pub enum Column {
     Ratio,
     /// How much is used.
     Usage,
+    /// The name of a flavor.
+    Flavor,
+    /// What a flavor asks for.
+    Query,
+    /// How many of a flavor are wanted, which may be left out.
+    Wanted,
 }
 
 impl Column {
@@ -50,6 +56,9 @@ impl Column {
             Column::StepSize => b"step_size",
             Column::Ratio => b"allocation_ratio",
             Column::Usage => b"usage",
+            Column::Flavor => b"flavor",
+            Column::Query => b"query",
+            Column::Wanted => b"wanted",
         }
     }
 }

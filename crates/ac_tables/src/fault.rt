@@ -1,5 +1,6 @@
 //! The tables and what can be wrong with them.
 ghost use Rattle.std.specs.Prelude.{◌≡◌};
+ghost use Rattle.ac_tables.specs.Tables.Checks.{fault_at};
 ghost use Rattle.ac_tables.specs.Tables.Names.{kind_name, table_name};
 
 use ac_base::NoMemory;
@@ -183,5 +184,15 @@ impl From<AllocError> for RecordFault {
 
     fn from(_error: AllocError) -> RecordFault {
         RecordFault::NoMemory
+    }
+}
+
+// The fault of a record, told with its table and number, or a refused growth.
+pub(crate) fn fault_at(table: Table, row: u32, fault: RecordFault) -> TableFault
+    ensures { result ≡ fault_at table row fault }
+{
+    match fault {
+        RecordFault::Kind(kind) => TableFault::At { table, row, kind },
+        RecordFault::NoMemory => TableFault::NoMemory,
     }
 }

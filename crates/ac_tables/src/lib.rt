@@ -5,6 +5,7 @@
 
 pub mod columns;
 pub mod fault;
+pub mod flavors;
 pub mod found;
 pub mod laws;
 pub mod read;
@@ -16,6 +17,7 @@ pub mod written;
 pub use ac_cloud::{Cloud, Counts, Entry, HostFault};
 pub use columns::{Column, columns_needed};
 pub use fault::{Table, TableFault, TableKind};
+pub use flavors::{Flavor, FlavorFault, read_flavors};
 pub use found::Found;
 pub use read::{FiveTables, FromTables, Sources};
 pub use table_bytes::{ReadFault, drain};

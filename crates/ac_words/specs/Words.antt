@@ -14,7 +14,7 @@ use Rattle.clap.specs.declared.error.kind.ErrorKind.TheVariants.{ArgumentConflic
 use Rattle.ac_base.specs.Texts.{count_value, id_value}
 use Rattle.ac_query.specs.declared.version.Version.{Version}
 use Rattle.ac_query.specs.declared.version.Version.TheVariants.{V136, V139}
-use Rattle.ac_run.specs.Tasks.{Command, Paths, Task, check, candidates, tokens, list, fill, verify, explain, hosts, why, command_shown}
+use Rattle.ac_run.specs.Tasks.{Command, Paths, Task, check, candidates, tokens, list, fill, verify, explain, hosts, why, capacity, command_shown}
 use Rattle.ac_tables.specs.Tables.Names.{table_name}
 use Rattle.ac_tables.specs.declared.fault.Table.{Table}
 use Rattle.ac_tables.specs.declared.fault.Table.TheVariants.{Providers, Inventories, Usages, Traits, Aggregates}
@@ -100,6 +100,10 @@ hosts_app = with_rule (with_rule (with_tries (query_app (codes "hosts"))) (optio
 abbrev pub why_app : App
 why_app = with_tries (with_rule (query_app (codes "why")) (word_rule (codes "host")))
 
+-- a command with a table of flavors
+abbrev pub capacity_app : App
+capacity_app = with_tries (with_rule (new_app (codes "capacity")) (word_rule (codes "flavors")))
+
 -- a session, which reads its queries later
 abbrev pub session_app : App
 session_app = with_tries (new_app (codes "session"))
@@ -115,6 +119,7 @@ app_for name.Verify = verify_app
 app_for name.Explain = explain_app
 app_for name.Hosts = hosts_app
 app_for name.Why = why_app
+app_for name.Capacity = capacity_app
 app_for name.Session = session_app
 
 -- what has a version, and needs one of its own commands
@@ -124,8 +129,8 @@ as_program app = record app { top = record app.top { has_version = true; subcomm
 abbrev pub program : App
 program =
     with_subcommand (with_subcommand (with_subcommand (with_subcommand (with_subcommand (with_subcommand (with_subcommand (with_subcommand
-    (with_subcommand (with_subcommand (as_program (new_app (codes "ac_cli"))) check_app.top) candidates_app.top) tokens_app.top) list_app.top)
-    fill_app.top) verify_app.top) explain_app.top) hosts_app.top) why_app.top) session_app.top
+    (with_subcommand (with_subcommand (with_subcommand (as_program (new_app (codes "ac_cli"))) check_app.top) candidates_app.top) tokens_app.top) list_app.top)
+    fill_app.top) verify_app.top) explain_app.top) hosts_app.top) why_app.top) capacity_app.top) session_app.top
 
 -- ---- what it states of the words
 
@@ -236,9 +241,11 @@ faults words = or_else (fault_of program words) (own_faults (named words))
 
 -- ---- what is made of it
 
--- what the words of a command line call for: a command with its query, which is empty for a check, or a session, whose questions are read later
+-- what the words of a command line call for: a command with its query, which is empty for a check; the table of flavors at a path; or a session, whose
+-- questions are read later
 pub data Call : Type 0 where
   job : Command → Text → Call
+  plan : Text → Call
   session : Call
 
 -- what the words of a command line say
@@ -249,11 +256,17 @@ pub record Line : Type 0 where
   pub detail : Bool
   pub paths : Paths
 
--- the task that they ask for, with these paths where more is told; none where they ask for a session
-abbrev pub task_in : Line → Option Paths → Option Task
-task_in line detail = task_called line.call
+-- the path of the table of flavors, where they ask for one
+abbrev pub flavors_called : Call → Option Text
+flavors_called (plan path) = Some path
+flavors_called _ = None
+
+-- the task that they ask for, with this text of the table of flavors, and with these paths where more is told; none where they ask for a session
+abbrev pub task_in : Line → Text → Option Paths → Option Task
+task_in line flavors detail = task_called line.call
   where
     task_called : Call → Option Task
+    task_called (plan path) = Some (record { command = capacity flavors; query = []; version = line.version; tries = line.tries; detail = detail })
     task_called (job command query) = Some (record { command = command; query = query; version = line.version; tries = line.tries; detail = detail })
     task_called session = None
 
@@ -284,6 +297,7 @@ call_of name.Verify rows = option_and_then (λ token. asking rows (verify token)
 call_of name.Explain rows = asking rows explain
 call_of name.Hosts rows = asking rows (hosts (sum_of rows) (within_in rows))
 call_of name.Why rows = option_and_then (λ host. asking rows (why host)) (first_of (codes "host") rows)
+call_of name.Capacity rows = option_map plan (first_of (codes "flavors") rows)
 call_of name.Session rows = Some session
 
 -- whether more is said: what to do about a fault, and of what a rule is broken; every command may be asked
@@ -352,6 +366,7 @@ Tells kinds NoMemory = ⊤
 
 abbrev pub call_shown : rust.Call → Call
 call_shown (variant.Job command query) = job (command_shown command) query.now
+call_shown (variant.Plan flavors) = plan flavors.now
 call_shown variant.Session = session
 
 abbrev pub paths_kept : FiveTables (String Global) → Paths

@@ -14,10 +14,11 @@ pub enum Name {
     Explain,
     Hosts,
     Why,
+    Capacity,
     Session,
 }
 
-const ALL_NAMES: [Name; 10] = [
+const ALL_NAMES: [Name; 11] = [
     Name::Check,
     Name::Candidates,
     Name::Tokens,
@@ -27,6 +28,7 @@ const ALL_NAMES: [Name; 10] = [
     Name::Explain,
     Name::Hosts,
     Name::Why,
+    Name::Capacity,
     Name::Session,
 ];
 
@@ -45,6 +47,7 @@ impl Name {
             Name::Explain => "explain",
             Name::Hosts => "hosts",
             Name::Why => "why",
+            Name::Capacity => "capacity",
             Name::Session => "session",
         }
     }

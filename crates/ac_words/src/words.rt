@@ -2,7 +2,7 @@
 ghost use Rattle.std.specs.Prelude.{◌≡◌, IfErr, IfOk, IsTrue, OnOk, [], map, option_map, string_bytes};
 ghost use Rattle.ac_run.specs.Tasks.{detail_shown, paths_shown, task_of};
 ghost use Rattle.ac_tables.specs.FiveTables.{table_in};
-ghost use Rattle.ac_words.specs.Words.{Line, Says, Tells, call_shown, faults, is_taken, named, paths_kept, task_in};
+ghost use Rattle.ac_words.specs.Words.{Line, Says, Tells, call_shown, faults, flavors_called, is_taken, named, paths_kept, task_in};
 ghost use Rattle.clap.specs.Words.{HasKind, Kinds};
 ghost use Rattle.ac_words.specs.declared.words.WordFault.TheVariants.{NoMemory};
 
@@ -23,6 +23,8 @@ use std::marker::Model;
 enum Call<'a> {
     // A command, with its query.
     Job(Command<'a>, &'a str),
+    // The table of flavors at a path.
+    Plan(&'a str),
     // A session, whose questions are read later.
     Session,
 }
@@ -50,19 +52,33 @@ impl<'a> Model for Words<'a> {
 }
 
 impl<'a> Words<'a> {
-    /// The job that the words ask for, with these paths where more is told; none where they ask for a session.
-    pub fn job<'b>(&'b self, detail: Option<&'b Paths<'b>>) -> Option<Job<'b>>
-        ensures { option_map task_of result ≡ task_in self.now (detail_shown detail.entry) }
+    /// The job that the words ask for, with this text of the table of flavors, and with these paths where more is told; none where they ask for a
+    /// session.
+    pub fn job<'b>(&'b self, flavors: &'b [u8], detail: Option<&'b Paths<'b>>) -> Option<Job<'b>>
+        ensures { option_map task_of result
+            ≡ task_in self.now flavors.now (detail_shown detail.entry) }
+    {
+        let (command, query) = match self.call {
+            Call::Job(command, query) => (command, query),
+            Call::Plan(_) => (Command::Capacity { flavors }, ""),
+            Call::Session => return None,
+        };
+        Some(Job {
+            command,
+            query,
+            version: self.version,
+            tries: self.tries,
+            detail,
+        })
+    }
+
+    /// The path of the table of flavors, where the words ask for one.
+    pub fn flavors(&self) -> Option<&str>
+        ensures { option_map (λ path. path.now) result ≡ flavors_called self.now.call }
     {
         match self.call {
-            Call::Job(command, query) => Some(Job {
-                command,
-                query,
-                version: self.version,
-                tries: self.tries,
-                detail,
-            }),
-            Call::Session => None,
+            Call::Plan(path) => Some(path),
+            _ => None,
         }
     }
 

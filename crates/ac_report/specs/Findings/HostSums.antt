@@ -1,5 +1,5 @@
 -- The text of `hosts --sum`: a header, a row for the roots that fit, and one for each thing that roots lack, with the number of roots.
-use Rattle.std.specs.Prelude.{ℕ, ◌+◌, ◌-◌, ◌*◌, ◌==◌, List, [], ◌∷◌, ◌++◌, map, length, codes, Option, None, Some}
+use Rattle.std.specs.Prelude.{ℕ, ◌+◌, ◌-◌, ◌*◌, ◌==◌, nat_lt, List, [], ◌∷◌, ◌++◌, map, length, codes, Option, None, Some}
 use Rattle.std.specs.Fmt.{decimal}
 use Rattle.std.specs.List.{filter, flat_map, range_with_len}
 use Rattle.csv.specs.Writing.{default_writer, row_text}
@@ -80,3 +80,22 @@ sum_rows asked found kinds = (sum_columns ∷ fits_row (count_lacks found None) 
 
 unfoldable pub sums_text : List Provider → Asked → Option ℕ → List ℕ
 sums_text all asked within = flat_map (row_text default_writer) (sum_rows asked (lacks_of_roots all asked within) (possible_lacks (length (slots_of asked))))
+
+-- ---- What is lacking, as one text
+
+-- a text behind a blank, where it isn't empty
+abbrev pub behind_blank : List ℕ → List ℕ
+behind_blank [] = []
+behind_blank text = 32 ∷ text
+
+-- with what the slot asks that is lacked
+abbrev pub lack_text : Asked → Lack → List ℕ
+lack_text asked kind = lack_name (Some kind) ++ behind_blank (asks_of asked (Some kind))
+
+abbrev pub lack_told : Asked → Lack × ℕ → List ℕ × ℕ
+lack_told asked sum = (lack_text asked sum.0, sum.1)
+
+-- Each thing that roots lack, with the number of roots that lack it.
+unfoldable pub lack_counts : List Provider → Asked → List (List ℕ × ℕ)
+lack_counts all asked =
+    map (lack_told asked) (filter (λ sum. nat_lt 0 sum.1) (counted (lacks_of_roots all asked None) (possible_lacks (length (slots_of asked)))))

@@ -7,7 +7,7 @@ ghost use Rattle.ac_cloud.specs.Cloud.CloudWorld.{providers_of};
 ghost use Rattle.ac_query.specs.Asked.{slots_of};
 ghost use Rattle.ac_query.specs.Shown.Queries.{asked_of};
 ghost use Rattle.ac_find.specs.Lacking.{lack_at, lacks_of};
-ghost use Rattle.ac_report.specs.Findings.HostSums.{count_lacks, counted, fits_row, lack_number, lacks_of_slot, possible_lacks, rows_falling, rows_of_count, stage_number, sum_row, sums_text};
+ghost use Rattle.ac_report.specs.Findings.HostSums.{count_lacks, counted, fits_row, lack_counts, lack_number, lack_text, lacks_of_roots, lacks_of_slot, possible_lacks, rows_falling, rows_of_count, stage_number, sum_row, sums_text};
 
 use crate::findings::host_details::asks_of;
 use crate::findings::lacks::{lack_name, slot_digits};
@@ -208,6 +208,29 @@ fn write_falling(
     Ok(())
 }
 
+// How many roots lack each thing, of all roots, or of those of an aggregate: what each of these lacks, and the sums.
+fn sums_of(
+    alloc: Global,
+    cloud: &Cloud,
+    query: &Query,
+    within: Option<u128>,
+    lacks: &[Option<Lack>],
+) -> Result<(Vec<Option<Lack>>, Vec<(Lack, u32)>), NoMemory>
+    requires { lacks.now ≡ lacks_of (providers_of cloud.now) (asked_of query.now) }
+    ensures found { IfOk result (λ sums. sums.0.items
+        ≡ lacks_of_roots (providers_of cloud.now) (asked_of query.now) within) }
+    ensures sums { IfOk result (λ sums. sums.1.items
+        ≡ counted (lacks_of_roots (providers_of cloud.now) (asked_of query.now) within)
+        (possible_lacks (length (slots_of (asked_of query.now))))) }
+    ensures few { IfOk result (λ sums. length sums.0.items < 2 ^ 32) }
+{
+    let roots = roots_within(alloc, cloud, within)?;
+    let found = lacks_at(alloc, cloud, query, &roots, lacks)?;
+    let kinds = possible_lacks(alloc, count_slots(query))?;
+    let sums = counted(alloc, &found, &kinds)?;
+    Ok((found, sums))
+}
+
 /// The text of `hosts --sum` of all roots, or of those of an aggregate alone, by what each provider lacks as a root.
 #[tactic(auto, unfolding(crate::specs::Findings::HostSums::sums_text))]
 pub fn sums_text(
@@ -221,12 +244,44 @@ pub fn sums_text(
     ensures { IfOk result (λ text.
         text.items ≡ sums_text (providers_of cloud.now) (asked_of query.now) within) }
 {
-    let roots = roots_within(alloc, cloud, within)?;
-    let found = lacks_at(alloc, cloud, query, &roots, lacks)?;
-    let kinds = possible_lacks(alloc, count_slots(query))?;
-    let sums = counted(alloc, &found, &kinds)?;
+    let (found, sums) = sums_of(alloc, cloud, query, within, lacks)?;
     let mut rows = begin_rows(alloc, &[b"hosts", b"slot", b"lacks", b"asks"])?;
     write_fits(&mut rows, count_lacks(&found, None))?;
     write_falling(alloc, &mut rows, query, &sums, found.len() as u32)?;
     end_rows(rows)
+}
+
+// What is lacking, as one text.
+fn lack_text(alloc: Global, query: &Query, kind: Lack) -> Result<Vec<u8>, NoMemory>
+    ensures { IfOk result (λ text. text.items ≡ lack_text (asked_of query.now) kind) }
+{
+    let mut text = lack_name(Some(kind)).to_vec(alloc)?;
+    let asks = asks_of(alloc, query, Some(kind))?;
+    if !asks.is_empty() {
+        text.push(b' ')?;
+        text.extend_from_slice(&asks)?;
+    }
+    Ok(text)
+}
+
+/// Each thing that roots lack, with the number of roots that lack it, by what each provider lacks as a root.
+#[tactic(auto, unfolding(crate::specs::Findings::HostSums::lack_counts))]
+pub fn lack_counts(
+    alloc: Global,
+    cloud: &Cloud,
+    query: &Query,
+    lacks: &[Option<Lack>],
+) -> Result<Vec<(Vec<u8>, usize)>, NoMemory>
+    requires { lacks.now ≡ lacks_of (providers_of cloud.now) (asked_of query.now) }
+    ensures { IfOk result (λ counts. map (λ c. (c.0.items, c.1)) counts.items
+        ≡ lack_counts (providers_of cloud.now) (asked_of query.now)) }
+{
+    let (_found, sums) = sums_of(alloc, cloud, query, None, lacks)?;
+    let mut counts = Vec::new(alloc);
+    for (kind, count) in &sums {
+        if *count > 0 {
+            counts.push((lack_text(alloc, query, *kind)?, *count as usize))?;
+        }
+    }
+    Ok(counts)
 }

@@ -1,15 +1,38 @@
 //! The lines of refusals, pushed piece by piece: they take no memory.
 ghost use Rattle.std.specs.Prelude.{◌≡◌, ◌≤◌, ◌++◌};
 ghost use Rattle.ac_query.specs.Shown.Faults.{fault_shown};
-ghost use Rattle.ac_run.specs.Lines.{pair_line, group_line, record_line};
-ghost use Rattle.ac_run.specs.Refusals.{line_of, line_of_asked, line_of_query, line_of_tables, line_told, status_of, status_of_asked, status_told};
+ghost use Rattle.ac_run.specs.Flavors.{flavor_line, query_told, why_shown};
+ghost use Rattle.ac_run.specs.Lines.{group_line, line_at, pair_line, record_line};
+ghost use Rattle.ac_run.specs.Refusals.{line_of, line_of_asked, line_of_tables, line_told, status_of, status_of_asked, status_told};
 ghost use Rattle.ac_base.specs.Writing.{Pushes, TakesLine};
 
-use crate::refusal::{AskRefusal, Refusal, Refused, TablesRefusal};
+use crate::refusal::{AskRefusal, FlavorsRefusal, Refusal, Refused, TablesRefusal};
 use ac_base::{Digits, Sink, WriteFailed, push_all, push_pieces};
 use ac_cloud::HostFault;
 use ac_query::{QueryFault, TokenFault};
 use ac_tables::{Table, TableKind};
+
+// The line of what is wrong with a record of a table, by their names.
+fn push_line_at<E: Sink>(
+    err: &mut E,
+    table: &[u8],
+    row: u32,
+    name: &[u8],
+) -> Result<(), WriteFailed>
+    ensures { Pushes E.taken E.failures err.old err.new result (line_at table.now row name.now) }
+{
+    push_pieces(
+        err,
+        &[
+            table,
+            b": record ",
+            Digits::of(row).as_bytes(),
+            b": ",
+            name,
+            b"\n",
+        ],
+    )
+}
 
 // The line of a fault of a record.
 #[tactic(auto, unfolding(crate::specs::Lines::record_line))]
@@ -21,17 +44,7 @@ fn push_record_line<E: Sink>(
 ) -> Result<(), WriteFailed>
     ensures { Pushes E.taken E.failures err.old err.new result (record_line table row kind) }
 {
-    push_pieces(
-        err,
-        &[
-            table.name().as_bytes(),
-            b": record ",
-            Digits::of(row).as_bytes(),
-            b": ",
-            kind.name().as_bytes(),
-            b"\n",
-        ],
-    )
+    push_line_at(err, table.name().as_bytes(), row, kind.name().as_bytes())
 }
 
 // The line of what is wrong with a pair.
@@ -59,11 +72,11 @@ fn push_group_line<E: Sink>(err: &mut E, suffix: &[u8], name: &[u8]) -> Result<(
     push_pieces(err, &[b"query: group \"", suffix, b"\": ", name, b"\n"])
 }
 
-// The line of a fault of a query.
+/// The line of a fault of a query.
 #[tactic(auto, unfolding(crate::specs::Lines::query_line, crate::specs::Lines::memory_line))]
-fn push_query_line<E: Sink>(err: &mut E, fault: &QueryFault) -> Result<(), WriteFailed>
+pub(crate) fn push_query_line<E: Sink>(err: &mut E, fault: &QueryFault) -> Result<(), WriteFailed>
     ensures { Pushes E.taken E.failures err.old err.new result
-        (line_of_query (fault_shown fault.now)) }
+        (query_told (fault_shown fault.now)) }
 {
     match fault {
         QueryFault::QueryTooLong => push_whole(err, b"query: QueryTooLong\n"),
@@ -114,6 +127,30 @@ fn push_tables_line<E: Sink>(err: &mut E, refusal: &TablesRefusal) -> Result<(),
     }
 }
 
+// The line of a record of a table of flavors.
+#[tactic(auto, unfolding(crate::specs::Flavors::flavor_line, crate::specs::Flavors::flavors_name))]
+fn push_flavor_line<E: Sink>(err: &mut E, row: u32, name: &[u8]) -> Result<(), WriteFailed>
+    ensures { Pushes E.taken E.failures err.old err.new result (flavor_line row name.now) }
+{
+    push_line_at(err, b"flavors", row, name)
+}
+
+// Pushes the line of a table of flavors that is refused.
+#[tactic(auto, unfolding(crate::specs::Flavors::unread_line, crate::specs::Flavors::large_line, crate::specs::Flavors::query_name))]
+fn push_flavors_line<E: Sink>(err: &mut E, refusal: &FlavorsRefusal) -> Result<(), WriteFailed>
+    ensures { Pushes E.taken E.failures err.old err.new result (why_shown refusal.now).line }
+{
+    match refusal {
+        FlavorsRefusal::Unreadable => push_whole(err, b"flavors: Unreadable\n"),
+        FlavorsRefusal::TooLarge => push_whole(err, b"flavors: TooLarge\n"),
+        FlavorsRefusal::Record { row, kind } => {
+            push_flavor_line(err, *row, kind.name().as_bytes())
+        }
+        FlavorsRefusal::NotText { row } => push_flavor_line(err, *row, b"BadQuery"),
+        FlavorsRefusal::Query { row, .. } => push_flavor_line(err, *row, b"BadQuery"),
+    }
+}
+
 /// Pushes the line of what is asked and refused.
 #[tactic(auto, unfolding(crate::specs::Lines::token_line, crate::specs::Lines::host_line, crate::specs::Lines::memory_line))]
 pub fn push_asked_line<E: Sink>(err: &mut E, refusal: &AskRefusal) -> Result<(), WriteFailed>
@@ -126,6 +163,7 @@ pub fn push_asked_line<E: Sink>(err: &mut E, refusal: &AskRefusal) -> Result<(),
         AskRefusal::Token(TokenFault::NoMemory) => push_whole(err, b"out of memory\n"),
         AskRefusal::Host(HostFault::Unknown) => push_whole(err, b"host: Unknown\n"),
         AskRefusal::Host(HostFault::Ambiguous) => push_whole(err, b"host: Ambiguous\n"),
+        AskRefusal::Flavors(refusal) => push_flavors_line(err, refusal),
         AskRefusal::NoMemory => push_whole(err, b"out of memory\n"),
     }
 }
@@ -149,7 +187,7 @@ pub fn asked_status(refusal: &AskRefusal) -> u8
     ensures { result ≡ status_of_asked refusal.now }
 {
     match refusal {
-        AskRefusal::Query(_) => 4,
+        AskRefusal::Query(_) | AskRefusal::Flavors(_) => 4,
         AskRefusal::Token(_) | AskRefusal::Host(_) => 5,
         AskRefusal::NoMemory => 7,
     }

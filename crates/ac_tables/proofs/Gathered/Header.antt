@@ -1,7 +1,9 @@
 -- The checks of a header, and then those of the records.
 use Rattle.ac_tables.proofs.Common.{◌≡◌, ◌∙◌, ◌++◌, ℕ, Bool, true, false, List, [], ◌∷◌, map, ◌<◌, arith, Option, Some, None, IsTable, TableRow, Ordering, refl, sym, ap, inl, inr, cases_Bool, list_any, Row, Check, first_failing, record_checks, told_at, Tells, table_checks, Table, TableKind, TableFault}
-use Rattle.ac_tables.specs.Tables.Checks.{told}
-use Rattle.ac_tables.specs.Tables.Columns.{is_missing, is_double, header_checks, header_fault, said_by}
+use Rattle.ac_tables.specs.Tables.Checks.{told, TellsKind, fault_at}
+use Rattle.ac_tables.specs.declared.fault.RecordFault.{RecordFault}
+use Rattle.ac_tables.specs.declared.fault.RecordFault.TheVariants as record_fault
+use Rattle.ac_tables.specs.Tables.Columns.{is_missing, is_double, header_checks, header_fault, header_kind, said_by}
 use Rattle.ac_tables.specs.Tables.Names.{columns_needed, name_of, names_needed}
 use Rattle.ac_tables.specs.declared.fault.Table.TheVariants as table
 use Rattle.ac_tables.specs.declared.columns.Column.{Column}
@@ -55,10 +57,15 @@ told_cases : (t : Table) (n : ℕ) (checks : List Check) (rest : List (Bool × T
 told_cases t n checks rest None u r k same h = absurd (cc)
 told_cases t n checks rest (Some j) u r k same h = told_some t n checks rest j same ∙ h
 
+-- what is wrong with a header, told of a table
+pub kind_told : (t : Table) (first : Option TableKind) (e : RecordFault) → TellsKind first e → Tells (told t 1 first) (fault_at t 1 e)
+kind_told t first (record_fault.Kind k) h = ap (told t 1) h
+kind_told t first record_fault.NoMemory h = tt
+
 -- a fault of the header is the first of the table
 pub fault_of_header : {V : Type 0} (t : Table) (names : List (List ℕ)) (value : Row → Row → V) (checks : Row → List V → Row → List Check) (rows : List Row) (e : TableFault)
     → Tells (header_fault t names rows) e → Tells (first_failing (table_checks t names value checks rows)) e
-unfolding header_fault
+unfolding header_fault header_kind
 fault_of_header t names value checks [] e h = h
 fault_of_header t names value checks (header ∷ rows) (fault.At u r k) h =
     told_cases t 1 (header_checks names header) (record_checks t (value header) (checks header) [] rows) _ u r k refl h
@@ -68,7 +75,7 @@ fault_of_header t names value checks (header ∷ rows) fault.NoMemory h = tt
 pub records_left : {V : Type 0} (t : Table) (names : List (List ℕ)) (value : Row → Row → V) (checks : Row → List V → Row → List Check) (rows rest : List Row) (header : Row)
     → rows ≡ header ∷ rest → header_fault t names rows ≡ None
     → (first_failing (table_checks t names value checks rows) ≡ first_failing (record_checks t (value header) (checks header) [] rest)) × (said_by value rows ≡ map (value header) rest)
-unfolding header_fault
+unfolding header_fault header_kind
 records_left t names value checks rows rest header e h =
     let none : first_failing (header_checks names header) ≡ None = no_kind _ t 1 (rw e at h) in
     (rw e (told_none t 1 (header_checks names header) (record_checks t (value header) (checks header) [] rest) none), ap (said_by value) e)

@@ -6,6 +6,7 @@ use Rattle.std.specs.Str.{bytes_eq}
 use Rattle.ac_base.specs.Texts.{id_value, count_value}
 use Rattle.ac_tables.specs.Tables.Checks.{Row, Check, told, told_at, first_failing, record_checks}
 use Rattle.ac_tables.specs.declared.fault.Table.{Table}
+use Rattle.ac_tables.specs.declared.fault.TableKind.{TableKind}
 use Rattle.ac_tables.specs.declared.fault.TableKind.TheVariants as kind
 use Rattle.ac_tables.specs.declared.fault.TableFault.{TableFault}
 use Rattle.ac_tables.specs.declared.fault.TableFault.TheVariants as fault
@@ -35,10 +36,14 @@ unfoldable pub header_checks : List (List ℕ) → Row → List Check
 header_checks names header =
     map (λ name. (is_missing header name, kind.MissingColumn)) names ++ map (λ name. (is_double header name, kind.DoubleColumn)) names
 
+-- what is wrong with a header that needs these columns
+unfoldable pub header_kind : List (List ℕ) → List Row → Option TableKind
+header_kind names [] = Some kind.NoHeader
+header_kind names (header ∷ rows) = first_failing (header_checks names header)
+
 -- the first fault of a table's header
 unfoldable pub header_fault : Table → List (List ℕ) → List Row → Option TableFault
-header_fault table names [] = Some (fault.At table 1 kind.NoHeader)
-header_fault table names (header ∷ rows) = told table 1 (first_failing (header_checks names header))
+header_fault table names rows = told table 1 (header_kind names rows)
 
 -- All checks of a table of these columns: there is a header, then the header, then its records.
 abbrev pub table_checks : {V : Type 0} → Table → List (List ℕ) → (Row → Row → V) → (Row → List V → Row → List Check) → List Row → List (Bool × TableFault)

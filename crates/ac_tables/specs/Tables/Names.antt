@@ -50,6 +50,9 @@ name_of column.MaxUnit = codes "max_unit"
 name_of column.StepSize = codes "step_size"
 name_of column.Ratio = codes "allocation_ratio"
 name_of column.Usage = codes "usage"
+name_of column.Flavor = codes "flavor"
+name_of column.Query = codes "query"
+name_of column.Wanted = codes "wanted"
 
 -- the columns that a table needs, in the order in which they are checked
 unfoldable pub columns_needed : Table → List Column

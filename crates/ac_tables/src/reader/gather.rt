@@ -1,7 +1,7 @@
 //! Reading the rows of any table, up to the first that has a fault of its own.
 ghost use Rattle.std.specs.Prelude.{◌≡◌, ◌≤◌, true, false, None, [], map, length, IfOk, IfErr, IfSome};
 ghost use Rattle.csv.specs.Records.{fields_of};
-ghost use Rattle.ac_tables.specs.Tables.Checks.{rows_fault, first_failing, fault_at, Tells};
+ghost use Rattle.ac_tables.specs.Tables.Checks.{rows_fault, first_failing, Tells};
 ghost use Rattle.ac_tables.specs.Tables.Columns.{table_checks, said_by};
 ghost use Rattle.ac_tables.specs.Tables.{rows_given};
 ghost use Rattle.ac_tables.specs.Tables.Names.{names_needed};
@@ -9,7 +9,7 @@ ghost use Rattle.ac_tables.specs.Drain.{most_bytes};
 ghost use Rattle.ac_tables.specs.Reader.TableRows.{is_past, IsReadUpTo, IsLeastRepeat, IsTable};
 ghost use Rattle.ac_tables.specs.Tables.Rows.{IsReading, rows_left, records_of};
 
-use crate::fault::{RecordFault, Table, TableFault, TableKind};
+use crate::fault::{RecordFault, Table, TableFault, TableKind, fault_at};
 use crate::reader::header::open_table;
 use crate::reader::record::{Record, Seen};
 use crate::reader::records::next_row;
@@ -72,16 +72,6 @@ fn forbidden_repeat<T: Record>(rows: &[TableRow<T::Key, T::Value>]) -> Option<u3
     ensures unique { IfSome result (λ _. T.UNIQUE ≡ true) }
 {
     if T::UNIQUE { first_repeat(rows) } else { None }
-}
-
-// The fault of a record, told with its table and number, or a refused growth.
-fn fault_at(table: Table, row: u32, fault: RecordFault) -> TableFault
-    ensures { result ≡ fault_at table row fault }
-{
-    match fault {
-        RecordFault::Kind(kind) => TableFault::At { table, row, kind },
-        RecordFault::NoMemory => TableFault::NoMemory,
-    }
 }
 
 // The rows of the records that are left, in the order of providers and keys, or the first fault. A fault of a record that

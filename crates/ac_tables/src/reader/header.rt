@@ -3,13 +3,13 @@ ghost use Rattle.std.specs.Prelude.{◌≡◌, ◌≤◌, None, length, map, IfO
 ghost use Rattle.std.specs.List.{list_any};
 ghost use Rattle.std.specs.Option.{unwrap_or};
 ghost use Rattle.csv.specs.Records.{fields_of};
-ghost use Rattle.ac_tables.specs.Tables.Checks.{first_failing, Tells};
-ghost use Rattle.ac_tables.specs.Tables.Columns.{column, is_missing, is_double, header_checks, header_fault};
+ghost use Rattle.ac_tables.specs.Tables.Checks.{first_failing, Tells, TellsKind};
+ghost use Rattle.ac_tables.specs.Tables.Columns.{column, is_missing, is_double, header_checks, header_fault, header_kind};
 ghost use Rattle.ac_tables.specs.Tables.Names.{name_of, names_needed};
 ghost use Rattle.ac_tables.specs.Tables.Rows.{records_of, rows_left, IsReading};
 
 use crate::columns::{Column, columns_needed};
-use crate::fault::{Table, TableFault, TableKind};
+use crate::fault::{RecordFault, Table, TableFault, TableKind, fault_at};
 use crate::reader::records::{next_row, open_rows, text_at};
 use csv::{ByteRecord, Reader};
 use std::alloc::Global;
@@ -80,19 +80,35 @@ fn find_fault(header: &ByteRecord, needed: &[Column]) -> Option<TableKind>
     None
 }
 
-// A fault of the header.
-fn fault_of_header(table: Table, kind: TableKind) -> TableFault
-    ensures { result ≡ TableFault.At table 1 kind }
+// A reader of the records after the header, which has these columns and goes into `header`.
+#[tactic(auto, unfolding(crate::specs::Tables::Columns::header_kind), using(crate::proofs::Gathered::RowsLeft::rest_few))]
+pub(crate) fn open_with<'a>(
+    alloc: Global,
+    needed: &[Column],
+    text: &'a [u8],
+    header: &mut ByteRecord,
+) -> Result<Reader<&'a [u8]>, RecordFault>
+    ensures reading { IfOk result (λ reader. IsReading reader) }
+    ensures rows { IfOk result (λ reader. records_of text.now
+        ≡ fields_of header.new ∷ rows_left reader) }
+    ensures ok { IfOk result (λ _.
+        header_kind (map name_of needed.now) (records_of text.now) ≡ None) }
+    ensures few { IfOk result (λ reader. length (rows_left reader) ≤ length text.now) }
+    ensures fault { IfErr result (λ e.
+        TellsKind (header_kind (map name_of needed.now) (records_of text.now)) e) }
 {
-    TableFault::At {
-        table,
-        row: 1,
-        kind,
+    let mut reader = open_rows(alloc, text);
+    if next_row(&mut reader, header)? {
+        if let Some(kind) = find_fault(header, needed) {
+            return Err(RecordFault::Kind(kind));
+        }
+        return Ok(reader);
     }
+    Err(RecordFault::Kind(TableKind::NoHeader))
 }
 
-// A reader of the records after the header, which goes into `header`.
-#[tactic(auto, unfolding(crate::specs::Tables::Columns::header_fault), using(crate::proofs::Gathered::RowsLeft::rest_few))]
+// The same of a table.
+#[tactic(auto, unfolding(crate::specs::Tables::Columns::header_fault), using(crate::proofs::Gathered::Header::kind_told))]
 pub(crate) fn open_table<'a>(
     alloc: Global,
     table: Table,
@@ -108,12 +124,8 @@ pub(crate) fn open_table<'a>(
     ensures fault { IfErr result (λ e.
         Tells (header_fault table (names_needed table) (records_of text.now)) e) }
 {
-    let mut reader = open_rows(alloc, text);
-    if next_row(&mut reader, header)? {
-        if let Some(kind) = find_fault(header, columns_needed(table)) {
-            return Err(fault_of_header(table, kind));
-        }
-        return Ok(reader);
+    match open_with(alloc, columns_needed(table), text, header) {
+        Ok(reader) => Ok(reader),
+        Err(fault) => Err(fault_at(table, 1, fault)),
     }
-    Err(fault_of_header(table, TableKind::NoHeader))
 }

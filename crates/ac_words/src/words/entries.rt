@@ -86,6 +86,7 @@ fn call<'a>(name: Name, entries: &ArgMatches<'a>) -> Option<Call<'a>>
             let host = entry(entries, "host")?;
             asking(entries, Command::Why { host })
         }
+        Name::Capacity => Some(Call::Plan(entry(entries, "flavors")?)),
         Name::Session => Some(Call::Session),
     }
 }

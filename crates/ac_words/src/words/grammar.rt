@@ -2,7 +2,7 @@
 ghost use Rattle.std.specs.Prelude.{◌≡◌, IfOk, false};
 ghost use Rattle.clap.specs.Words.{app_of, rule_of};
 ghost use Rattle.clap.specs.declared.builder.command.Command.TheViews.{out-Command as fields_of};
-ghost use Rattle.ac_words.specs.Words.{app_for, candidates_app, check_app, explain_app, fill_app, flag_rule, hosts_app, list_app, option_rule, program, query_app, search_app, session_app, shown_app, tokens_app, verify_app, why_app, with_common, with_options, with_tables, with_tries, word_rule};
+ghost use Rattle.ac_words.specs.Words.{app_for, candidates_app, capacity_app, check_app, explain_app, fill_app, flag_rule, hosts_app, list_app, option_rule, program, query_app, search_app, session_app, shown_app, tokens_app, verify_app, why_app, with_common, with_options, with_tables, with_tries, word_rule};
 
 use super::help;
 use crate::name::Name;
@@ -363,6 +363,26 @@ fn why<'a>(alloc: Global) -> Result<Command<'a>, AllocError>
     add_tries(alloc, command)
 }
 
+fn capacity<'a>(alloc: Global) -> Result<Command<'a>, AllocError>
+    ensures app { IfOk result (λ c. app_of c ≡ capacity_app) }
+    ensures local { IfOk result (λ c. (fields_of c).has_globals ≡ false) }
+{
+    let command = Command::new(alloc, "capacity")
+        .about("Writes how many of each flavor fit, at how many hosts, and what is short (CSV)")
+        .override_usage(
+            "ac_cli capacity [OPTIONS] --tables <DIR> <FLAVORS>\n       \
+             ac_cli capacity [OPTIONS] --providers <FILE> --inventories <FILE> <FLAVORS>",
+        )
+        .after_help(help::CAPACITY);
+    let command = command.arg(word(
+        alloc,
+        "flavors",
+        "FLAVORS",
+        "A table of flavors: the columns flavor and query, and wanted if it is there (CSV)",
+    ))?;
+    add_tries(alloc, command)
+}
+
 fn session<'a>(alloc: Global) -> Result<Command<'a>, AllocError>
     ensures app { IfOk result (λ c. app_of c ≡ session_app) }
     ensures local { IfOk result (λ c. (fields_of c).has_globals ≡ false) }
@@ -393,6 +413,7 @@ pub(super) fn command<'a>(alloc: Global, name: Name) -> Result<Command<'a>, Allo
         Name::Explain => explain(alloc),
         Name::Hosts => hosts(alloc),
         Name::Why => why(alloc),
+        Name::Capacity => capacity(alloc),
         Name::Session => session(alloc),
     }
 }
@@ -417,6 +438,7 @@ pub(super) fn program<'a>(alloc: Global) -> Result<Command<'a>, AllocError>
     let command = command.subcommand(explain(alloc)?)?;
     let command = command.subcommand(hosts(alloc)?)?;
     let command = command.subcommand(why(alloc)?)?;
+    let command = command.subcommand(capacity(alloc)?)?;
     let command = command.subcommand(session(alloc)?)?;
     Ok(command)
 }

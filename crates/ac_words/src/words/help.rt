@@ -43,9 +43,9 @@ macro_rules! searching {
 
 pub(super) const PROGRAM: &str = below!(
     "  0  the answer is written\n  1  `verify` says no; `fill`, `explain`, `hosts` or `why` finds no \
-     candidate; `fill` places fewer than `limit`\n",
+     candidate; `fill` places fewer than `limit`, or `capacity` than are wanted\n",
     "  3  a table was refused, or a table or the questions could not be read\n",
-    "  4  the query was refused\n  5  the token was refused, or the host names no provider\n",
+    "  4  the query or the table of flavors was refused\n  5  the token was refused, or the host names no provider\n",
     "  8  a search made as many tries as it may\n",
     "  ac_cli tokens 'resources=VCPU:2,DISK_GB:20' --tables cloud"
 );
@@ -102,6 +102,12 @@ pub(super) const WHY: &str = searching!(
     "  0  the query fits at the host\n  1  it doesn't fit there\n",
     "  4  the query was refused\n  5  the host names no provider, or several\n",
     "  ac_cli why 'resources=VCPU:8&required=CUSTOM_ROW_2' compute-02 --tables cloud"
+);
+
+pub(super) const CAPACITY: &str = searching!(
+    "  0  of each flavor as many can be placed as are wanted\n  1  of some fewer can\n",
+    "  4  the table of flavors was refused, or could not be read\n",
+    "  ac_cli capacity flavors.csv --tables cloud"
 );
 
 pub(super) const SESSION: &str = below!(

@@ -1,25 +1,13 @@
-use Rattle.std.proofs.Common.{◌∙◌, ap, inr}
-use Rattle.ac_run.specs.Tasks.{task_of}
-use Rattle.ac_words.specs.Words.{task_in}
-use Rattle.ac_cli.proofs.RanTasks.{held_call, ran_call}
+use Rattle.std.proofs.Common.{inr}
 use Rattle.ac_cli.proofs.program.answer_line.Goals as goal
 
-pub returns-in-Some : goal.returns-in-Some
-returns-in-Some g c =
-    inr (record {
+pub returns : goal.returns
+returns g c =
+    inr (inr (record {
       from = c.in-Ok.inputs;
-      to = c.ran_job.new.inputs;
+      to = c.answer_opened.new.inputs;
       files = rw (← c.paths-paths.ensures) c.in-Ok.ensures.files;
-      ran = ran_call _ _ _ _ c.args.words.now c.in-Ok.inputs c.ran_job.new.inputs c.args.questions _ _ (task_of c.in-Some.job)
-          (c.in-Some.ensures ∙ ap (task_in c.args.words.now) c.detail_of-detail.ensures) c.ran_job.ensures;
-    })
-
-pub returns-in-None : goal.returns-in-None
-returns-in-None g c =
-    inr (record {
-      from = c.in-Ok.inputs;
-      to = c.held.new.inputs;
-      files = rw (← c.paths-paths.ensures) c.in-Ok.ensures.files;
-      ran = held_call _ _ _ _ c.args.words.now c.in-Ok.inputs c.held.new.inputs c.args.questions _ _ _ _ _
-          (c.in-None.ensures ∙ ap (task_in c.args.words.now) c.detail_of-detail.ensures) c.detail_of-detail.ensures c.version.ensures c.tries.ensures c.held.ensures;
-    })
+      flavors = c.deref.result.now;
+      held = rw c.deref.ensures.value c.in-Ok-flavors_of.ensures.held;
+      ran = c.answer_opened.ensures;
+    }))

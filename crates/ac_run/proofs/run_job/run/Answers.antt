@@ -1,4 +1,5 @@
-use Rattle.std.proofs.Common.{◌≡◌, ap, arith}
+use Rattle.std.proofs.Common.{◌≡◌, ℕ, List, Option, None, Some, ap, arith, inl, inr, refl}
+use Rattle.std.specs.Io.KnownBytes.{Keeps}
 use Rattle.ac_run.specs.Answer.{answer}
 use Rattle.ac_run.specs.Refusals.{line_told, status_told}
 use Rattle.ac_run.specs.Stops.{TaskMayStop}
@@ -60,6 +61,23 @@ returns-in-Err-clause-stopped g c =
     rw c.tell.ensures.status
     (ends_stopped g.R.Feed.remaining g.R.Feed.failures task.detail (answer task) (TaskMayStop task) c.args.inputs.now c.answer_job.new.inputs (line_told c.in-Err.refused) (status_told c.in-Err.refused)
     (c.answer_job.new.out ≡ c.args.out.now) _ _ (λ e. ap g.W.Sink.taken e) _ _ c.in-Err.ensures.fault _ _ _ _ c.tell.ensures.line)
+
+-- what is as it was keeps what it has
+kept : (a b : Option (List ℕ)) → b ≡ a → Keeps a b
+kept None b e = tt
+kept (Some xs) b e = rw e refl
+
+pub returns-in-Err-clause-untouched : goal.returns-in-Err-clause-untouched
+returns-in-Err-clause-untouched g c = λ low high. elim c.in-Err.ensures.fault [
+  | inl whole ↦ kept _ _ (ap g.W.Sink.taken whole.0)
+  | inr broke ↦ elim broke.0 [
+    | inl six ↦ absurd (omega (arith, six.1, high, c.tell.ensures.status))
+    | inr rest ↦ elim rest [
+      | inl seven ↦ absurd (omega (arith, seven.1, high, c.tell.ensures.status))
+      | inr eight ↦ absurd (omega (arith, eight.1, high, c.tell.ensures.status))
+    ]
+  ]
+]
 
 pub returns-in-Err-clause-written : goal.returns-in-Err-clause-written
 returns-in-Err-clause-written g c = λ few.

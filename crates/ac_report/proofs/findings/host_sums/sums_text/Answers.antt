@@ -1,10 +1,9 @@
-use Rattle.std.proofs.Common.{◌≡◌, ◌∙◌, ℕ, ◌++◌, List, [], ◌∷◌, IfOk, None, Option, length, map, subst, ap, ap₂, arith}
+use Rattle.std.proofs.Common.{◌≡◌, ◌∙◌, ℕ, ◌++◌, List, [], ◌∷◌, IfOk, None, Option, length, subst, ap, ap₂, arith}
 use Rattle.std.specs.List.{flat_map}
 use Rattle.csv.specs.Writing.{default_writer, row_text}
 use Rattle.ac_cloud.specs.Cloud.CloudWorld.{providers_of}
 use Rattle.ac_query.specs.Asked.{slots_of}
 use Rattle.ac_query.specs.Shown.Queries.{asked_of}
-use Rattle.ac_find.specs.Lacking.{lack_at}
 use Rattle.ac_find.specs.declared.lacks.Lack.{Lack}
 use Rattle.ac_report.specs.Findings.HostSums.{count_lacks, counted, fits_row, lacks_of_roots, possible_lacks, rows_falling, sum_columns, sum_rows, sums_text}
 use Rattle.ac_report.proofs.findings.host_sums.sums_text.Goals as goal
@@ -15,15 +14,13 @@ returns c =
     let asked = asked_of c.args.query.now in
     let all = providers_of c.args.cloud.now in
     let found = lacks_of_roots all asked c.args.within in
-    let kinds = possible_lacks (length (slots_of (asked_of c.args.query.now))) in
-    let found_is : c.in_ok-found.found.items ≡ found = c.in_ok-found.ensures ∙ ap (map (lack_at all asked)) (c.deref.ensures.value ∙ c.in_ok-roots.ensures.roots) in
-    let kinds_are : c.in_ok-kinds.kinds.items ≡ kinds = c.in_ok-kinds.ensures ∙ ap possible_lacks c.count_slots.ensures.count in
-    let fits : c.count_lacks.result ≡ count_lacks found None = c.count_lacks.ensures ∙ ap (λ (fs : List (Option Lack)). count_lacks fs None) (c.deref-4.ensures.value ∙ found_is) in
-    let sums : c.deref-5.result.now ≡ counted found kinds =
-    c.deref-5.ensures.value ∙ (c.in_ok-sums.ensures ∙ ap₂ counted (c.deref-2.ensures.value ∙ found_is) (c.deref-3.ensures.value ∙ kinds_are)) in
+    let kinds = possible_lacks (length (slots_of asked)) in
+    let found_is : c.in_ok-found.found.items ≡ found = c.in_ok-found.ensures.found in
+    let fits : c.count_lacks.result ≡ count_lacks found None = c.count_lacks.ensures ∙ ap (λ (fs : List (Option Lack)). count_lacks fs None) (c.deref.ensures.value ∙ found_is) in
+    let sums : c.deref-2.result.now ≡ counted found kinds = c.deref-2.ensures.value ∙ c.in_ok-found.ensures.sums in
     let many = ap length found_is in
     let most : c.len.result ≡ length found = omega (arith, c.len.ensures, c.in_ok-found.found.ok, many) in
-    let rows : (sum_columns ∷ fits_row c.count_lacks.result ∷ []) ++ rows_falling asked c.deref-5.result.now c.len.result ≡ sum_rows asked found kinds =
+    let rows : (sum_columns ∷ fits_row c.count_lacks.result ∷ []) ++ rows_falling asked c.deref-2.result.now c.len.result ≡ sum_rows asked found kinds =
     ap₂ (λ (first rest : List (List (List ℕ))). first ++ rest) (ap (λ n. sum_columns ∷ fits_row n ∷ []) fits) (ap₂ (rows_falling asked) sums most) in
     subst (λ (rows : List (List (List ℕ))). IfOk c.end_rows.result (λ text. text.items ≡ flat_map (row_text default_writer) rows)) rows
     (c.end_rows.ensures _ (c.in_ok-write_falling.ensures _ (c.in_ok-write_fits.ensures _ c.in_ok-rows.ensures)))
