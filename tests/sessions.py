@@ -58,6 +58,10 @@ FAULTS = [
     ('check\t', ended('', 2, UNKNOWN)),
     ('session', ended('', 2, UNKNOWN)),
     ('--help', ended('', 2, UNKNOWN)),
+    ('#', ''),
+    (f'# claim {TWO} P1', ''),
+    (' # check', ended('', 2, UNKNOWN)),
+    ('audit x', ended('', 2, NUMBER)),
     ('check ', ended('', 2, NUMBER)),
     ('check x', ended('', 2, NUMBER)),
     *((command, ended('', 2, NUMBER)) for command in ('candidates', 'tokens', 'list', 'fill', 'count', 'verify', 'explain', 'hosts', 'why', 'claim', 'release')),
@@ -86,16 +90,18 @@ FAULTS = [
     ('usages', ended(HEADERS['usages'], 0)),
     (f'tokens {TWO}', ended('P1\n', 0)),
     ('tokens resources=VCPU:9', ended('', 0)),
-    (f'list {TWO}', ended(LIST_HEADER + '1,VCPU=2,P1,,VCPU=0/8,\n', 0)),
+    (f'list {TWO}', ended(LIST_HEADER + '1,VCPU=2,P1,VCPU=0/8,,\n', 0)),
     (f'list {TWO} P1', ended(LIST_HEADER, 0)),
     ('check', ended(COUNTS, 0)),
+    ('audit', ended('kind,provider,name,detail\nno storage,P1,,"VCPU in its tree, and no DISK_GB there, its own or shared"\n'
+                    'no usage,,,1 of 1 inventories have no row\n', 1)),
 ]
 
 # A provider whose name looks like the end of an answer: no line of an answer but its last begins with `=`.
 NAMED = {**tables(ONE), 'providers': full('uuid,name,root_provider_uuid,parent_provider_uuid\nP1,"\n= 0\n=",P1,\n')}
 LIKE_ENDS = [
     (f'hosts {TWO}', ended('root,name,fits,slot,lacks,asks,detail\nP1,?= 0?=,yes,,,,\n', 0)),
-    (f'list {TWO}', ended(LIST_HEADER + '1,VCPU=2,P1,?= 0?=,VCPU=0/8,\n', 0)),
+    (f'list {TWO}', ended(LIST_HEADER + '1,VCPU=2,P1,VCPU=0/8,,?= 0?=\n', 0)),
     (f'why {TWO} P1', ended('slot,suffix,asks,provider,name,lacks,detail\n1,,VCPU:2,P1,?= 0?=,,\nroot,,,P1,?= 0?=,,\nverdict,,,P1,?= 0?=,,fits\n', 0)),
     (f'tokens {TWO}', ended('P1\n', 0)),
 ]
@@ -572,6 +578,8 @@ def untried():
     """What isn't tried here, and why."""
     if not shutil.which('parallel'):
         yield 'docs/SESSION.md: the command by GNU parallel, which isn\'t installed'
+    if not (shutil.which('chromium') and shutil.which('chromedriver')):
+        yield 'tools/report: the page, as Chromium shows it: chromium or chromedriver isn\'t installed'
 
 
 def main(mode, program, *number):

@@ -6,7 +6,7 @@ use Rattle.std.proofs.lemmas.List.Sums.{fails_before_first}
 use Rattle.std.proofs.lemmas.Str.{IsUtf8-from_is_utf8, is_utf8-from_IsUtf8}
 use Rattle.std.specs.Str.{IsUtf8, is_utf8}
 use Rattle.ac_query.specs.declared.version.Version.{Version}
-use Rattle.ac_session.specs.Questions.{Asked, nothing, unknown, wrong_number, asked_by_name, asked_by_words, asked_of, asks_alone, is_blank, one_of, one_or_two_of, words_of}
+use Rattle.ac_session.specs.Questions.{Asked, nothing, unknown, wrong_number, asked_by_name, asked_by_words, asked_of, asks_alone, is_blank, is_passed_over, one_of, one_or_two_of, words_of}
 
 pub words_cut : (text : List ℕ) → position_or_len is_blank text < length text → words_of text ≡ before_first is_blank text ∷ words_of (after_first is_blank text)
 words_cut text found = slice_split_first is_blank text 0 found
@@ -41,14 +41,14 @@ not_alone text asked = by (words_of text) (some_word text)
     by (next ∷ words) some = refl
 
 -- a line with bytes asks what its words ask, if it is text
-pub asked_as_text : (version : Version) (line name : List ℕ) (words : List (List ℕ)) → (length line == 0) ≡ false → IsUtf8 line → words_of line ≡ name ∷ words
+pub asked_as_text : (version : Version) (line name : List ℕ) (words : List (List ℕ)) → is_passed_over line ≡ false → IsUtf8 line → words_of line ≡ name ∷ words
     → asked_of version line ≡ asked_by_name version name words
 asked_as_text version line name words filled text cut =
     ap (λ b. if b then nothing else if is_utf8 line then asked_by_words version (words_of line) else unknown) filled
     ∙ ap (λ b. if b then asked_by_words version (words_of line) else unknown) (is_utf8-from_IsUtf8 line text)
     ∙ ap (asked_by_words version) cut
 
-pub asked_as_bytes : (version : Version) (line : List ℕ) → (length line == 0) ≡ false → (IsUtf8 line → ⊥) → asked_of version line ≡ unknown
+pub asked_as_bytes : (version : Version) (line : List ℕ) → is_passed_over line ≡ false → (IsUtf8 line → ⊥) → asked_of version line ≡ unknown
 asked_as_bytes version line filled bytes =
     ap (λ b. if b then nothing else if is_utf8 line then asked_by_words version (words_of line) else unknown) filled
     ∙ by (is_utf8 line) refl

@@ -1,6 +1,6 @@
 -- Questions: what the words of a line ask.
 pub mod LineFaults
-use Rattle.std.specs.Prelude.{ℕ, ◌==◌, Bool, true, false, List, [], ◌∷◌, length, codes, Option, Some, None, if◌then◌else◌}
+use Rattle.std.specs.Prelude.{ℕ, ◌==◌, Bool, true, false, List, [], ◌∷◌, codes, Option, Some, None, if◌then◌else◌}
 use Rattle.std.specs.List.{slice_split}
 use Rattle.std.specs.Str.{bytes_eq, is_utf8}
 use Rattle.ac_query.specs.declared.version.Version.{Version}
@@ -102,6 +102,7 @@ asked_by_name version name words =
     else if bytes_eq name (codes "explain") then asks_query explain version words
     else if bytes_eq name (codes "hosts") then asks_query (hosts false None) version words
     else if bytes_eq name (codes "why") then asks_about why version words
+    else if bytes_eq name (codes "audit") then asks_alone words (asks_job (task.audit None) [] V136)
     else if bytes_eq name (codes "claim") then asks_claim words
     else if bytes_eq name (codes "release") then asks_release words
     else if bytes_eq name (codes "usages") then asks_alone words usages
@@ -111,10 +112,15 @@ abbrev pub asked_by_words : Version → List Text → Asked
 asked_by_words version [] = unknown
 asked_by_words version (name ∷ words) = asked_by_name version name words
 
+-- a line without bytes, or a comment, which begins with `#`
+abbrev pub is_passed_over : Text → Bool
+is_passed_over [] = true
+is_passed_over (first ∷ rest) = first == 35
+
 -- what a line asks; one that isn't UTF-8 is no command
 abbrev pub asked_of : Version → Text → Asked
 asked_of version line =
-    if length line == 0 then nothing else if is_utf8 line then asked_by_words version (words_of line) else unknown
+    if is_passed_over line then nothing else if is_utf8 line then asked_by_words version (words_of line) else unknown
 
 -- ---- what is read
 

@@ -1,7 +1,7 @@
 //! The question that a line asks.
 ghost use Rattle.std.specs.Prelude.{◌≡◌, ◌∷◌, true, option_map};
 ghost use Rattle.ac_run.specs.Tasks.{candidates, command_shown, list, tokens, verify, why};
-ghost use Rattle.ac_session.specs.Questions.{asked_by_name, asked_in, asked_of, asks_about, asks_alone, asks_claim, asks_fill, asks_job, asks_query, asks_release, asks_search, one_of, one_or_two_of, two_of, words_behind, words_of};
+ghost use Rattle.ac_session.specs.Questions.{asked_by_name, asked_in, asked_of, asks_about, asks_alone, asks_claim, asks_fill, asks_job, asks_query, asks_release, asks_search, is_passed_over, one_of, one_or_two_of, two_of, words_behind, words_of};
 
 use ac_query::Version;
 use ac_run::{Command, Job};
@@ -19,7 +19,7 @@ pub enum Question<'a> {
     Release { query: &'a str, token: &'a str },
     /// The used amounts.
     Usages,
-    /// Nothing: the line is empty.
+    /// Nothing: the line is empty, or a comment.
     Nothing,
     /// Its first word is no command, or it isn't UTF-8.
     Unknown,
@@ -233,6 +233,7 @@ fn question_by_name<'a>(version: Version, name: &str, rest: Option<&'a str>) -> 
             rest,
         ),
         "why" => why(version, rest),
+        "audit" => alone(job(Command::Audit { zone: None }, "", Version::V136), rest),
         "claim" => claim(rest),
         "release" => release(rest),
         "usages" => alone(Question::Usages, rest),
@@ -240,11 +241,21 @@ fn question_by_name<'a>(version: Version, name: &str, rest: Option<&'a str>) -> 
     }
 }
 
+// Whether a line has no bytes, or is a comment.
+fn is_passed_over(line: &[u8]) -> bool
+    ensures { result ≡ is_passed_over line.now }
+{
+    match line.first() {
+        Some(first) => *first == b'#',
+        None => true,
+    }
+}
+
 /// What a line asks, its query read by a version.
 pub fn read_question(line: &[u8], version: Version) -> Question<'_>
     ensures { asked_in result ≡ asked_of version line.now }
 {
-    if line.is_empty() {
+    if is_passed_over(line) {
         return Question::Nothing;
     }
     match std::str::from_utf8(line) {

@@ -1,7 +1,7 @@
-//! The text of a query as it may be given: by itself, or behind the path of a URL and a `?`.
+//! The text of a query as it may be given: by itself, or behind the path of a URL and a `?`, in a line of a log.
 ghost use Rattle.std.specs.Prelude.{◌≡◌};
-ghost use Rattle.std.specs.List.{list_any};
-ghost use Rattle.ac_words.specs.Mark.{is_joint, past_mark};
+ghost use Rattle.std.specs.List.{before_first, list_any};
+ghost use Rattle.ac_words.specs.Mark.{is_end, is_joint, past_mark};
 
 // Whether a text has `=` or `&`.
 fn has_joint(text: &str) -> bool
@@ -12,13 +12,27 @@ fn has_joint(text: &str) -> bool
         .any(|byte| *byte == b'=' || *byte == b'&')
 }
 
-/// What stands behind the first `?` of a text, where neither `=` nor `&` stands before it; else the whole text.
+// A text up to white space or a quote, at which a URL ends in a line of a log.
+fn before_end(text: &str) -> &str
+    ensures { result.now ≡ before_first is_end text.now }
+{
+    let end = text
+        .as_bytes()
+        .iter()
+        .position(|byte| *byte <= b' ' || *byte == b'"' || *byte == b'\'');
+    match end {
+        Some(end) => &text[..end],
+        None => text,
+    }
+}
+
+/// What stands behind the first `?` of a text up to white space or a quote, where neither `=` nor `&` stands before the `?`; else the whole text.
 #[tactic(auto, unfolding(crate::specs::Mark::past_mark))]
 pub fn past_mark(text: &str) -> &str
     ensures { result.now ≡ past_mark text.now }
 {
     match text.split_once('?') {
-        Some((path, query)) if !has_joint(path) => query,
+        Some((path, query)) if !has_joint(path) => before_end(query),
         _ => text,
     }
 }
