@@ -6,7 +6,8 @@
 # together, in the order of the table of providers, as the exports of docs/EXPORT.md write them.
 #
 # Each time is processor time of the program and of the system for it, the least of seven runs; memory is the most that was held at once. The query is
-# that of an ordinary flavor, with `limit=1000`, as Nova asks. Build the program first, by ./ac_cli; AC_CLI may name another one.
+# that of an ordinary flavor, with `limit=1000`, as Nova asks; `capacity` has twelve flavors, of 1 to 12 VCPUs, and behind the table a hundred of these sizes
+# over the last cloud. Build the program first, by ./ac_cli; AC_CLI may name another one.
 
 set -eu
 export LC_ALL=C
@@ -47,8 +48,20 @@ shown() {
     fi
 }
 
-echo '| hosts | providers | tables | `check` | `tokens` | `hosts` | `why` | `explain` | memory |'
-echo '|---|---|---|---|---|---|---|---|---|'
+# flavors NUMBER: prints a table of this number of flavors
+flavors() {
+    echo flavor,query
+    local n size
+    for ((n = 0; n < $1; n++)); do
+        size=$((n % 12 + 1))
+        echo "f$n,\"resources=DISK_GB:$((size * 10)),MEMORY_MB:$((size * 4096)),VCPU:$size&root_required=!COMPUTE_STATUS_DISABLED\""
+    done
+}
+flavors 12 >"$room/twelve"
+flavors 100 >"$room/hundred"
+
+echo '| hosts | providers | tables | `check` | `tokens` | `hosts` | `why` | `explain` | `audit` | `capacity` | memory |'
+echo '|---|---|---|---|---|---|---|---|---|---|---|'
 [[ $# -gt 0 ]] || set -- 300 1000 10000 65533
 for hosts; do
     kinds=''
@@ -62,8 +75,11 @@ for hosts; do
     hosted=$(took hosts "$query")
     asked_why=$(took why "$query" cmp-az1-000)
     explained=$(took explain "$query")
+    audited=$(took audit)
+    planned=$(took capacity "$room/twelve")
     /usr/bin/time -q -f %M -o "$room/memory" "$program" tokens "$query" --tables "$room" >"$room/out" 2>"$room/err"
-    printf '| %d%s | %d | %d.%d MB | %s | %s | %s | %s | %s | %d MiB |\n' "$hosts" "${kinds:+, without NUMA nodes}" "$providers" $((bytes / 1000000)) \
+    printf '| %d%s | %d | %d.%d MB | %s | %s | %s | %s | %s | %s | %s | %d MiB |\n' "$hosts" "${kinds:+, without NUMA nodes}" "$providers" $((bytes / 1000000)) \
         $((bytes / 100000 % 10)) "$(shown "$checked")" "$(shown "$asked")" "$(shown "$hosted")" "$(shown "$asked_why")" \
-        "$(shown "$explained")" $(($(<"$room/memory") / 1024))
+        "$(shown "$explained")" "$(shown "$audited")" "$(shown "$planned")" $(($(<"$room/memory") / 1024))
 done
+echo "capacity of a hundred flavors over the last: $(shown "$(took capacity "$room/hundred")")"

@@ -3,6 +3,7 @@ from __future__ import annotations
 
 from dataclasses import dataclass, field
 
+from metrics import metrics_of
 from notation import HEADERS, full, provider, tables
 
 SOME = None  # any text that isn't empty
@@ -86,7 +87,7 @@ def page(name, cloud, query, body, after=None):
 
 def listed(name, cloud, query, rows, *words, **changed):
     """`list` must write these rows below its header."""
-    out = '#,allocation,resource provider,name,inventory used/capacity,traits\n' + ''.join(full(row) + '\n' for row in rows)
+    out = '#,allocation,resource provider,inventory used/capacity,traits,name\n' + ''.join(full(row) + '\n' for row in rows)
     return Case(f'list: {name}', ['list', full(query), *map(full, words)], out, tables={**tables(cloud), **changed})
 
 
@@ -108,6 +109,21 @@ def bad_flavors(line, flavors, *words, detail='', why=''):
     """A table of flavors must be refused with this line, and with this one behind it where more is told."""
     return Case(f'capacity: {line}{why and ", " + why}{detail and ", in detail"}', ['capacity', *words], err=f'flavors: {line}\n{detail}', status=4,
                 tables={**tables(ONE), 'flavors': flavors})
+
+
+def measured(name, cloud, flavors, *rows, status=0):
+    """`capacity --prometheus` over this table of flavors must write the numbers of these rows, in which names are as they are shown."""
+    return Case(f'capacity, as metrics: {name}', ['capacity', '--prometheus'], metrics_of(rows), status=status, tables={**tables(cloud), 'flavors': full(flavors)})
+
+
+AUDIT_HEAD = 'kind,provider,name,detail\n'
+
+
+def audited(name, cloud, *rows, zone=None, **changed):
+    """`audit` must write these rows below its header. A table that is changed to None isn't given."""
+    made = {table: text for table, text in {**tables(cloud), **changed}.items() if text is not None}
+    return Case(f'audit: {name}', ['audit', *([] if zone is None else ['--zone', full(zone)])], AUDIT_HEAD + ''.join(full(row) + '\n' for row in rows),
+                status=1 if rows else 0, tables=made)
 
 
 def counted(name, counts, **changed):
@@ -389,20 +405,20 @@ PAGES = [
               + DISK_SUMMARY.replace('"MISC_SHARES_VIA_AGGREGATE"', '') + '}}\n'), tables=tables(SHARED)),
     # Two rows of each candidate, of which the providers stand in the order of their UUIDs, and not in that of the slots.
     listed('two candidates of a shared disk', SHARED, 'resources=DISK_GB:10,VCPU:1',
-           ['1,VCPU=1,P1,,VCPU=0/8,', '1,DISK_GB=10,P9,,DISK_GB=0/100,MISC_SHARES_VIA_AGGREGATE',
-            '2,VCPU=1,P3,,VCPU=0/8,', '2,DISK_GB=10,P9,,DISK_GB=0/100,MISC_SHARES_VIA_AGGREGATE']),
-    listed('without traits', SHARED, 'resources=DISK_GB:10,VCPU:1&limit=1', ['1,VCPU=1,P1,,VCPU=0/8,', '1,DISK_GB=10,P9,,DISK_GB=0/100,'], '--no-traits'),
+           ['1,VCPU=1,P1,VCPU=0/8,,', '1,DISK_GB=10,P9,DISK_GB=0/100,MISC_SHARES_VIA_AGGREGATE,',
+            '2,VCPU=1,P3,VCPU=0/8,,', '2,DISK_GB=10,P9,DISK_GB=0/100,MISC_SHARES_VIA_AGGREGATE,']),
+    listed('without traits', SHARED, 'resources=DISK_GB:10,VCPU:1&limit=1', ['1,VCPU=1,P1,VCPU=0/8,,', '1,DISK_GB=10,P9,DISK_GB=0/100,,'], '--no-traits'),
     listed('after a token, counted from 1', SHARED, 'resources=DISK_GB:10,VCPU:1',
-           ['1,VCPU=1,P3,,VCPU=0/8,', '1,DISK_GB=10,P9,,DISK_GB=0/100,MISC_SHARES_VIA_AGGREGATE'], '--after', 'P9,P1'),
+           ['1,VCPU=1,P3,VCPU=0/8,,', '1,DISK_GB=10,P9,DISK_GB=0/100,MISC_SHARES_VIA_AGGREGATE,'], '--after', 'P9,P1'),
     listed('none', SHARED, 'resources=VCPU:9', []),
-    listed('a provider that serves two slots has one row, with the sum', ONE, 'resources1=VCPU:2&resources2=VCPU:3&group_policy=none', ['1,VCPU=5,P1,,VCPU=0/8,']),
+    listed('a provider that serves two slots has one row, with the sum', ONE, 'resources1=VCPU:2&resources2=VCPU:3&group_policy=none', ['1,VCPU=5,P1,VCPU=0/8,,']),
     listed('two candidates that take the same', CHILD, FIVE_AND_FIVE,
-           ['1,VCPU=5,P1,,VCPU=0/8,', '1,VCPU=5,P2,,VCPU=0/8,', '2,VCPU=5,P1,,VCPU=0/8,', '2,VCPU=5,P2,,VCPU=0/8,']),
-    listed('a provider of a group without resources has no row', NUMA, UNDER_NUMA, ['1,VCPU=1,P4,,VCPU=0/4,']),
+           ['1,VCPU=5,P1,VCPU=0/8,,', '1,VCPU=5,P2,VCPU=0/8,,', '2,VCPU=5,P1,VCPU=0/8,,', '2,VCPU=5,P2,VCPU=0/8,,']),
+    listed('a provider of a group without resources has no row', NUMA, UNDER_NUMA, ['1,VCPU=1,P4,VCPU=0/4,,']),
     listed('several classes and traits, in byte order', 'P1 | | VCPU total 8, used 3; MEMORY_MB total 64, reserved 4, allocation_ratio 1.5 | CUSTOM_B, CUSTOM_A',
-           'resources=VCPU:2,MEMORY_MB:16', ['1,"MEMORY_MB=16,VCPU=2",P1,,"MEMORY_MB=0/90,VCPU=3/8","CUSTOM_A,CUSTOM_B"']),
-    listed('what is used may be more than the capacity', 'P1 | | VCPU total 8, used 9; PGPU total 1', 'resources=PGPU:1', ['1,PGPU=1,P1,,"PGPU=0/1,VCPU=9/8",']),
-    listed('a name with a comma, a quote and a newline', ONE, 'resources=VCPU:2', ['1,VCPU=2,P1,"a,""b""?c",VCPU=0/8,'],
+           'resources=VCPU:2,MEMORY_MB:16', ['1,"MEMORY_MB=16,VCPU=2",P1,"MEMORY_MB=0/90,VCPU=3/8","CUSTOM_A,CUSTOM_B",']),
+    listed('what is used may be more than the capacity', 'P1 | | VCPU total 8, used 9; PGPU total 1', 'resources=PGPU:1', ['1,PGPU=1,P1,"PGPU=0/1,VCPU=9/8",,']),
+    listed('a name with a comma, a quote and a newline', ONE, 'resources=VCPU:2', ['1,VCPU=2,P1,VCPU=0/8,,"a,""b""?c"'],
            providers='uuid,name,root_provider_uuid,parent_provider_uuid\n' + full('P1,"a,""b""\nc",P1,\n')),
     Case('hosts: names that would harm a terminal, or that are no text', ['hosts', 'resources=VCPU:9'], SHOWN_ROWS, status=1, tables={**tables(ONE), 'providers': SHOWN}),
     found('after the first', SHARED, 'resources=DISK_GB:10,VCPU:1', 'P9,P3', after='P9,P1'),
@@ -740,6 +756,213 @@ CAPACITIES = [
     Case('capacity: a search that stops', ['capacity', '--tries', '1'], '', 'search: TooManyTries\n', 8, {**tables(APART), 'flavors': 'flavor,query\na,resources=VCPU:1\n'}),
 ]
 
+FULL_METRICS = '''\
+# HELP ac_flavor_hosts Root providers at which the flavor fits.
+# TYPE ac_flavor_hosts gauge
+ac_flavor_hosts{flavor="b"} 2
+ac_flavor_hosts{flavor="say \\"hi\\", \\\\o/"} 0
+# HELP ac_flavor_at_least Placements by first fit.
+# TYPE ac_flavor_at_least gauge
+ac_flavor_at_least{flavor="b"} 4
+ac_flavor_at_least{flavor="say \\"hi\\", \\\\o/"} 0
+# HELP ac_flavor_at_most Placements in any order at most.
+# TYPE ac_flavor_at_most gauge
+ac_flavor_at_most{flavor="b"} 4
+ac_flavor_at_most{flavor="say \\"hi\\", \\\\o/"} 0
+# HELP ac_flavor_wanted Placements that are wanted.
+# TYPE ac_flavor_wanted gauge
+ac_flavor_wanted{flavor="b"} 3
+ac_flavor_wanted{flavor="say \\"hi\\", \\\\o/"} 1
+# HELP ac_flavor_short_at Root providers that are short of the label short_of.
+# TYPE ac_flavor_short_at gauge
+ac_flavor_short_at{flavor="b",short_of="MEMORY_MB"} 1
+ac_flavor_short_at{flavor="say \\"hi\\", \\\\o/",short_of="units VCPU:9"} 2
+'''
+ODD_FLAVORS = 'flavor,query\n' + ''.join(f'"{name}",resources=VCPU:4\n' for name in ('a""b\\c', '\\', '\\\\n""', 'two\nlines\r\n', '\x1b[2J\x7f', 'Z\u00fcrich \u20ac5, {x=1} #', ''))
+OF_NONE = {name: HEADERS[name] for name in ('providers', 'inventories')}
+METRICS = [
+    Case('capacity, as metrics: each line', ['capacity', '--prometheus'], FULL_METRICS, status=1,
+         tables={**tables(TWO_SHORT), 'flavors': f'flavor,query,wanted\nb,{TWO_FIT},3\n"say ""hi"", \\o/",resources=VCPU:9,\n'}),
+    measured('in the order of the table', TWO_SHORT, f'flavor,query\nb,{TWO_FIT}\na,resources=VCPU:8\n', ('b', 2, 4, 4, 1, 'MEMORY_MB', 1), ('a', 1, 1, 1, 1, 'VCPU', 1)),
+    measured('more can be placed than by first fit', CHILD, f'flavor,query\na,{THREE_AND_THREE}\n', ('a', 1, 2, 4, 1, 'VCPU', 1)),
+    measured('fewer than are wanted', APART, 'flavor,query,wanted\na,resources=VCPU:4,5\n', ('a', 2, 4, 4, 5, 'VCPU', 2), status=1),
+    measured('none is wanted, and none fits', APART, 'flavor,query,wanted\na,resources=VCPU:9,0\n', ('a', 0, 0, 0, 0, 'units VCPU:9', 2)),
+    measured('nobody has the class', APART, 'flavor,query\na,"resources=MEMORY_MB:1&resources_A=VGPU:1,VCPU:1"\n',
+             ('a', 0, 0, 0, 1, 'no inventory MEMORY_MB:1', 2), status=1),
+    measured('a lack without a slot', OLD, 'flavor,query\na,resources=VCPU:1&root_required=CUSTOM_A\n', ('a', 0, 0, 0, 1, 'root traits', 2), status=1),
+    measured('no flavor', ONE, 'flavor,query\n'),
+    measured('odd names', ONE, ODD_FLAVORS, *((name, 1, 2, 2, 1, 'VCPU', 1) for name in ('a"b\\c', '\\', '\\\\n"', 'two?lines??', '?[2J?', 'Z\u00fcrich \u20ac5, {x=1} #', ''))),
+    Case('capacity, as metrics: names that are no text', ['capacity', '--prometheus'], metrics_of([('a?b', 1, 2, 2, 1, 'VCPU', 1), ('???x', 1, 2, 2, 1, 'VCPU', 1)]),
+         tables={**tables(ONE), 'flavors': b'flavor,query\na\xffb,resources=VCPU:4\n\xf0\x9f\x98x,resources=VCPU:4\n'}),
+    Case('capacity, as metrics: of no provider, a flavor is short of nothing', ['capacity', '--prometheus'], metrics_of([('a', 0, 0, 0, 1, '', '')]), status=1,
+         tables={**OF_NONE, 'flavors': 'flavor,query\na,resources=VCPU:1\n'}),
+    Case('capacity, as metrics: by version 1.39', ['capacity', '--prometheus', '--microversion', '1.39'], metrics_of([('a', 0, 0, 0, 1, 'required traits', 1)]), status=1,
+         tables={**tables(ONE), 'flavors': 'flavor,query\na,resources=VCPU:1&required=A&required=B\n'}),
+    bad_flavors('record 3: BadQuery', 'flavor,query\na,resources=VCPU:1\nb,\n', '--prometheus', why='as metrics'),
+    bad_flavors('record 1: MissingColumn', 'flavor,wanted\na,1\n', '--prometheus', why='as metrics'),
+    bad_table('usages: record 2: BadUuid', command=('capacity', '--prometheus'), flavors='', usages=HEADERS['usages'] + 'x,VCPU,1\n', why='before the flavors, as metrics'),
+    Case('capacity, as metrics: a search that stops', ['capacity', '--prometheus', '--tries', '1'], '', 'search: TooManyTries\n', 8,
+         {**tables(APART), 'flavors': 'flavor,query\na,resources=VCPU:1\n'}),
+]
+
+# A provider or more for each thing that can be amiss, and what is said of it. P8 shares with P1 and P5, which are in A3, and isn't there itself.
+PLANTED = '''P1 | | VCPU total 8, reserved 2, max_unit 9, allocation_ratio 1.5, used 10; DISK_GB total 10 | | A1, A3 | cmp-1
+P2 | P1 | VGPU total 2, min_unit 3, max_unit 4, used 0; PCPU total 4, step_size 5, used 0; MEMORY_MB total 64, min_unit 9, max_unit 8, used 0
+P3 | | DISK_GB total 50, used 50 | MISC_SHARES_VIA_AGGREGATE | A2 | nfs-1
+P4 | | DISK_GB total 50, used 0 | MISC_SHARES_VIA_AGGREGATE | | nfs-2
+P5 | | | MISC_SHARES_VIA_AGGREGATE | A1, A3 | nfs-3
+P6 | | | | | cmp-6
+P7 | | VCPU total 8, used 0 | COMPUTE_STATUS_DISABLED | | cmp-6
+P8 | | CUSTOM_X total 5, used 0 | MISC_SHARES_VIA_AGGREGATE | A1 | ceph'''
+INSIDE = (
+    'over capacity,P1,cmp-1,VCPU: 10 used of 9',
+    'never fits,P2,,"MEMORY_MB: min_unit 9, max_unit 8, step_size 1, capacity 64"',
+    'never fits,P2,,"PCPU: min_unit 1, max_unit 4, step_size 5, capacity 4"',
+    'never fits,P2,,"VGPU: min_unit 3, max_unit 4, step_size 1, capacity 2"',
+    'shares with nobody,P3,nfs-1,in no aggregate of another tree',
+    'shares with nobody,P4,nfs-2,in no aggregate',
+    'shares nothing,P5,nfs-3,no inventory',
+    'no inventory,P5,nfs-3,no provider of its tree has one',
+    'no inventory,P6,cmp-6,no provider of its tree has one',
+    'no storage,P7,cmp-6,"VCPU in its tree, and no DISK_GB there, its own or shared"',
+)
+OUTSIDE = 'outside its hosts\' aggregates,P8,ceph,"not in A3, where 2 of its hosts are"'
+BEHIND = (
+    'name twice,P6,cmp-6,2 providers have it',
+    'name twice,P7,cmp-6,2 providers have it',
+    'no usage,,,1 of 9 inventories have no row',
+    'disabled,P7,cmp-6,trait COMPUTE_STATUS_DISABLED',
+)
+SOUND = '''P1 | | VCPU total 8, allocation_ratio 1.5, used 12; MEMORY_MB total 4096, min_unit 256, step_size 256, used 0 | CUSTOM_A | A1, A2 | cmp-1
+P2 | P1 | SRIOV_NET_VF total 4, used 1 | HW_NIC_SRIOV | | cmp-1_PF0
+P3 | | VCPU total 8, used 0; DISK_GB total 100, used 0 | COMPUTE_NODE | A3 | cmp-3
+P9 | | DISK_GB total 100, min_unit 10, max_unit 100, step_size 10, used 100 | MISC_SHARES_VIA_AGGREGATE | A1, A2 | ceph'''
+NO_DISK, BOTH_LACK = '"VCPU in its tree, and no DISK_GB there, its own or shared"', 'in no aggregate of another tree'
+SHARER = 'PCPU total 8, used 0 | MISC_SHARES_VIA_AGGREGATE'
+
+# What an inventory is, and where no amount of it can be had, its four numbers that say so: min_unit, max_unit, step_size, capacity.
+UNITS = [
+    ('total 8', None), ('total 8, min_unit 8, step_size 8', None), ('total 8, min_unit 9', (9, 8, 1, 8)), ('total 8, step_size 9', (1, 8, 9, 8)),
+    ('total 8, min_unit 5, max_unit 7, step_size 4', (5, 7, 4, 8)), ('total 8, min_unit 5, max_unit 8, step_size 4', None),
+    ('total 8, reserved 1, min_unit 5, max_unit 8, step_size 4', (5, 8, 4, 7)), ('total 8, reserved 8', (1, 8, 1, 0)), ('total 0', (1, 0, 1, 0)),
+    ('total 0, max_unit 8', (1, 8, 1, 0)), ('total 8, max_unit 0', (1, 0, 1, 8)), ('total 8, min_unit 0, max_unit 0', (0, 0, 1, 8)),
+    ('total 8, min_unit 0, max_unit 1', None), ('total 8, min_unit 0, step_size 8', None), ('total 8, min_unit 0, max_unit 9, step_size 9', (0, 9, 9, 8)),
+    ('total 8, min_unit 9, max_unit 20, allocation_ratio 1.125', None), ('total 8, min_unit 9, max_unit 20, allocation_ratio 1.124999', (9, 20, 1, 8)),
+    ('total 8, allocation_ratio 0', (1, 8, 1, 0)), ('total 1, allocation_ratio 0.999999', (1, 1, 1, 0)), ('total 8, min_unit 4, max_unit 5, step_size 3', (4, 5, 3, 8)),
+    ('total 8, min_unit 4, max_unit 6, step_size 3', None), ('total 8, min_unit 3, max_unit 5, step_size 3', None),
+    (f'total {GREATEST}, min_unit {GREATEST}, step_size {GREATEST}, allocation_ratio 1000000', None),
+    (f'total {GREATEST}, min_unit {GREATEST}, step_size 2, allocation_ratio 1000000', (GREATEST, GREATEST, 2, GREATEST * 1000000)),
+    (f'total {GREATEST}, reserved 1, step_size {GREATEST}', (1, GREATEST, GREATEST, GREATEST - 1)),
+    (f'total {GREATEST}, min_unit {GREATEST - 1}, step_size {GREATEST - 1}', None),
+    (f'total {GREATEST}, min_unit {GREATEST}, step_size {GREATEST - 1}', (GREATEST, GREATEST, GREATEST - 1, GREATEST)),
+    (f'total 1, min_unit {GREATEST}, max_unit {GREATEST}, step_size {GREATEST - 1}, allocation_ratio 1000000', (GREATEST, GREATEST, GREATEST - 1, 1000000)),
+]
+
+
+def never_fits(units, numbers):
+    detail = '"PCPU: min_unit {}, max_unit {}, step_size {}, capacity {}"'.format(*numbers) if numbers else ''
+    return audited(f'units: {units}', f'P1 | | PCPU {units}, used 0', *([f'never fits,P1,,{detail}'] if numbers else []))
+
+
+AUDITS = [
+    audited('each thing once', PLANTED, *INSIDE, *BEHIND),
+    audited('each thing, of a zone in which the storage of its hosts is not', PLANTED, *INSIDE, OUTSIDE, *BEHIND, zone='A3'),
+    *(audited(f'of a zone, {why}', PLANTED, *INSIDE, *BEHIND, zone=zone) for why, zone in (
+        ('in which its storage is', 'A1'), ('of storage that nobody uses', 'A2'), ('of nobody', 'A7'), ('that is the UUID of a provider', 'P1'))),
+    *(audited(f'of a zone that is written {zone}', PLANTED, *INSIDE, OUTSIDE, *BEHIND, zone=zone)
+      for zone in (full('A3').upper(), '{A3}', 'urn:uuid:A3', full('A3').replace('-', ''))),
+    audited('the rows of a table in another order, and UUIDs in another form', PLANTED, *INSIDE, *BEHIND,
+            providers='name,uuid,root_provider_uuid,parent_provider_uuid\n' + ''.join(
+                f'{name},{{{full(of).upper()}}},{full(root)},{full(parent)}\n' for name, of, root, parent in (
+                    ('ceph', 'P8', 'P8', ''), ('nfs-3', 'P5', 'P5', ''), ('', 'P2', 'P1', 'P1'), ('cmp-6', 'P7', 'P7', 'None'), ('nfs-1', 'P3', 'P3', ''),
+                    ('cmp-6', 'P6', 'P6', ''), ('cmp-1', 'P1', 'P1', ''), ('nfs-2', 'P4', 'P4', '')))),
+    audited('nothing', SOUND),
+    *(audited(f'nothing, of the zone {zone}', SOUND, zone=zone) for zone in ('A1', 'A2', 'A3', 'A9')),
+    audited('no provider', '', **OF_NONE),
+    audited('no provider, of a zone', '', zone='A1', **HEADERS),
+    # Which inventories have a row of usages.
+    audited('no table of usages', SOUND, 'no usage,,,6 of 6 inventories have no row', usages=None),
+    audited('a table of usages without rows', SOUND, 'no usage,,,6 of 6 inventories have no row', usages=HEADERS['usages']),
+    audited('a table of usages in which one is missing', SOUND, 'no usage,,,1 of 6 inventories have no row', usages=rows(
+        'usages', 'P1,MEMORY_MB,0', 'P1,VCPU,12', 'P2,SRIOV_NET_VF,1', 'P3,DISK_GB,0', 'P9,DISK_GB,100')),
+    audited('no inventory that could have a usage', 'P1', 'no inventory,P1,,no provider of its tree has one'),
+    # What is left out counts as empty.
+    audited('no table of traits', PLANTED, *INSIDE[:4], 'no inventory,P5,nfs-3,no provider of its tree has one', *INSIDE[8:], *BEHIND[:3], zone='A3', traits=None),
+    audited('no table of aggregates', PLANTED, *INSIDE[:4], *(f'shares with nobody,P{n},{name},in no aggregate' for n, name in ((3, 'nfs-1'), (4, 'nfs-2'), (5, 'nfs-3'), (8, 'ceph'))),
+            *INSIDE[6:], *BEHIND, zone='A3', aggregates=None),
+    # Used amounts and capacities.
+    audited('all of it used, and more', 'P1 | | VGPU total 3, used 3; PCPU total 3, used 4; CUSTOM_A total 3, allocation_ratio 1.333334, used 5; CUSTOM_1 total 3, allocation_ratio 1.333333, used 4',
+            'over capacity,P1,,CUSTOM_1: 4 used of 3', 'over capacity,P1,,CUSTOM_A: 5 used of 4', 'over capacity,P1,,PCPU: 4 used of 3'),
+    audited('the first of nothing', 'P1 | | PCPU total 8, reserved 8, used 1', 'over capacity,P1,,PCPU: 1 used of 0',
+            'never fits,P1,,"PCPU: min_unit 1, max_unit 8, step_size 1, capacity 0"'),
+    audited('the greatest numbers', f'P1 | | PCPU total {GREATEST}, allocation_ratio 1000000, used {GREATEST}; VGPU total {GREATEST}, used {GREATEST}; '
+            f'CUSTOM_A total {GREATEST}, allocation_ratio 0.999999, used {GREATEST}', f'over capacity,P1,,CUSTOM_A: {GREATEST} used of 2147481499'),
+    audited('classes in byte order', 'P1 | | V_A total 1, used 2; VCPU_ total 1, used 2; VCPU total 1, used 2; V9 total 1, used 2; DISK_GB total 1, used 2',
+            *(f'over capacity,P1,,{name}: 2 used of 1' for name in ('DISK_GB', 'V9', 'VCPU', 'VCPU_', 'V_A'))),
+    *(never_fits(*one) for one in UNITS),
+    # With whom a provider shares.
+    audited('it shares with its own tree alone', f'P1 | | {SHARER} | A1\nP2 | P1 | PCPU total 8, used 0 | | A1\nP3 | | PCPU total 8, used 0 | | A2',
+            f'shares with nobody,P1,,{BOTH_LACK}'),
+    audited('a child that shares with another tree', f'P1 | | PCPU total 8, used 0\nP2 | P1 | {SHARER} | A1\nP3 | | PCPU total 8, used 0\nP4 | P3 | | | A2, A1'),
+    audited('a child that shares with its root alone', f'P1 | | PCPU total 8, used 0 | | A1\nP2 | P1 | {SHARER} | A1', f'shares with nobody,P2,,{BOTH_LACK}'),
+    audited('two that share with each other', f'P1 | | {SHARER} | A1\nP2 | | {SHARER} | A1'),
+    audited('the aggregate of its root is not its own', f'P1 | | PCPU total 8, used 0 | | A1\nP2 | P1 | {SHARER}\nP3 | | PCPU total 8, used 0 | | A1',
+            'shares with nobody,P2,,in no aggregate'),
+    audited('the trait is of the provider itself', 'P1 | | PCPU total 8, used 0 | MISC_SHARES_VIA_AGGREGATE | A1\nP2 | P1 | PCPU total 8, used 0 | | A2\nP3 | | PCPU total 8, used 0 | | A2',
+            f'shares with nobody,P1,,{BOTH_LACK}'),
+    audited('a child has what it shares not', 'P1 | | | MISC_SHARES_VIA_AGGREGATE | A1\nP2 | P1 | PCPU total 8, used 0\nP3 | | PCPU total 8, used 0 | | A1',
+            'shares nothing,P1,,no inventory'),
+    # Trees without inventories, and without storage.
+    audited('a tree of three without an inventory', 'P1 | | | | A1\nP2 | P1\nP3 | P2\nP9 | | DISK_GB total 1, used 0 | MISC_SHARES_VIA_AGGREGATE | A1',
+            'no inventory,P1,,no provider of its tree has one'),
+    audited('the inventory of a grandchild', 'P1\nP2 | P1\nP3 | P2 | PCPU total 8, used 0'),
+    audited('the disk of a child', 'P1 | | VCPU total 8, used 0\nP2 | P1 | DISK_GB total 8, used 0'),
+    audited('units of a child, and no disk', 'P1 | | MEMORY_MB total 8, used 0\nP2 | P1 | VCPU total 8, used 0', f'no storage,P1,,{NO_DISK}'),
+    audited('a disk that is shared with a child, and full', 'P1 | | VCPU total 8, used 0\nP2 | P1 | | | A1\nP9 | | DISK_GB total 8, used 8 | MISC_SHARES_VIA_AGGREGATE | A1'),
+    audited('a disk that is shared by a child of another tree', 'P1 | | VCPU total 8, used 0 | | A1\nP8 | | PCPU total 8, used 0\nP9 | P8 | DISK_GB total 8, used 0 | MISC_SHARES_VIA_AGGREGATE | A1'),
+    audited('a disk beside one that shares', 'P1 | | VCPU total 8, used 0 | | A1\nP8 | | PCPU total 8, used 0 | MISC_SHARES_VIA_AGGREGATE | A1\nP9 | P8 | DISK_GB total 8, used 0',
+            f'no storage,P1,,{NO_DISK}'),
+    audited('a disk that is not shared', 'P1 | | VCPU total 8, used 0 | | A1\nP9 | | DISK_GB total 8, used 0 | | A1', f'no storage,P1,,{NO_DISK}'),
+    audited('a disk of no size', 'P1 | | VCPU total 8, used 0; DISK_GB total 0, used 0', 'never fits,P1,,"DISK_GB: min_unit 1, max_unit 0, step_size 1, capacity 0"'),
+    audited('units that are shared with a host', 'P1 | | MEMORY_MB total 8, used 0 | | A1\nP9 | | VCPU total 8, used 0 | MISC_SHARES_VIA_AGGREGATE | A1', f'no storage,P9,,{NO_DISK}'),
+    audited('dedicated units alone', 'P1 | | PCPU total 8, used 0; VCPU9 total 8, used 0'),
+    # Storage outside of the zone that its hosts are in.
+    audited('one host in the zone, one of which a child is', f'P1 | | PCPU total 8, used 0 | | A1, A2\nP3 | | PCPU total 8, used 0 | | A1\nP4 | P3 | | | A2\nP9 | | {SHARER} | A1',
+            'outside its hosts\' aggregates,P9,,"not in A2, where 1 of its hosts are"', zone='A2'),
+    audited('a host that is in the zone, and shares by a child', f'P1 | | PCPU total 8, used 0 | | A2\nP3 | P1 | | | A1\nP9 | | {SHARER} | A1',
+            'outside its hosts\' aggregates,P9,,"not in A2, where 1 of its hosts are"', zone='A2'),
+    audited('its own root is one of its hosts', f'P1 | | PCPU total 8, used 0 | | A2\nP2 | P1 | {SHARER} | A1\nP3 | | PCPU total 8, used 0 | | A1, A2',
+            'outside its hosts\' aggregates,P2,,"not in A2, where 2 of its hosts are"', zone='A2'),
+    audited('hosts in the zone with which it does not share', f'P1 | | PCPU total 8, used 0 | | A2\nP3 | | PCPU total 8, used 0 | | A1\nP9 | | {SHARER} | A1', zone='A2'),
+    audited('one that does not share', 'P1 | | PCPU total 8, used 0 | | A1, A2\nP9 | | PCPU total 8, used 0 | | A1', zone='A2'),
+    # Names, which are compared byte for byte and shown as elsewhere.
+    audited('names that would harm a terminal, or that are no text', ONE, *(
+        f'no inventory,P{place},{says},no provider of its tree has one' for place, (_, says) in enumerate(NAMES, 1) if place > 1), f'no storage,P1,{NAMES[0][1]},{NO_DISK}',
+            'no usage,,,1 of 1 inventories have no row', providers=SHOWN),
+    audited('a name of three', 'P1 | | PCPU total 8, used 0 | | | a\nP2 | P1 | | | | a\nP3 | | PCPU total 8, used 0 | | | A\nP4 | P3 | | | | \nP5 | P3 | | | | \nP6 | P2 | | | | a',
+            *(f'name twice,P{n},a,3 providers have it' for n in (1, 2, 6))),
+    audited('two names of two, which look alike', 'P1 | | PCPU total 8, used 0',
+            *(f'name twice,P{n},"<b>x, ""y""?z",2 providers have it' for n in (1, 2, 4, 5)),
+            providers=rows('providers', *(f'"<b>x, ""y""{end}z",P{n},P1,{"P1" if n > 1 else ""}' for n, end in ((1, '\n'), (2, '\r'), (3, '\t'), (4, '\n'), (5, '\r'))),
+                           header='name,' + HEADERS['providers'])),
+    audited('a child that is disabled, and its root', 'P1 | | PCPU total 8, used 0 | COMPUTE_STATUS_DISABLED\nP2 | P1 | | COMPUTE_STATUS_DISABLED\nP3 | P1 | | COMPUTE_STATUS_DISABLED_',
+            *(f'disabled,P{n},,trait COMPUTE_STATUS_DISABLED' for n in (1, 2))),
+    # What a table says twice, or in another form.
+    audited('a trait twice', 'P1 | | PCPU total 8, used 0', 'disabled,P1,,trait COMPUTE_STATUS_DISABLED', traits=rows('traits', *['P1,COMPUTE_STATUS_DISABLED'] * 2)),
+    audited('aggregates twice, in several forms', f'P1 | | PCPU total 8, used 0\nP9 | | {SHARER}', 'outside its hosts\' aggregates,P9,,"not in A2, where 1 of its hosts are"',
+            zone='{A2}', aggregates=rows('aggregates', 'P1,A1', 'P9,{A1}', 'P1,urn:uuid:A1', 'P1,{A2}', 'P1,A2')),
+    audited('numbers that begin with zeros', 'P1 | | PCPU total 8, used 0', 'over capacity,P1,,PCPU: 9 used of 4', 'never fits,P1,,"PCPU: min_unit 5, max_unit 8, step_size 1, capacity 4"',
+            inventories=one_inventory(kind='PCPU', total='0000000008', min_unit='0000000005', step_size='01', allocation_ratio='0000000.500000'), usages=rows('usages', 'P1,PCPU,0000000009')),
+    audited('the longest name of a class', f'P1 | | {"A" * 255} total 8, used 9', f'over capacity,P1,,{"A" * 255}: 9 used of 8'),
+    *(audited(f'a name of {2 * count} bytes', 'P1', f'no inventory,P1,"{"n," * count}",no provider of its tree has one', providers=rows('providers', f'"{"n," * count}",P1,P1,', header=NAMED))
+      for count in (128, 32768)),
+    audited('of two names the first counts', 'P1 | | PCPU total 8, used 0', 'name twice,P1,a,2 providers have it', 'name twice,P3,a,2 providers have it',
+            providers=rows('providers', 'a,P1,P1,,b', 'b,P2,P1,P1,a', 'a,P3,P1,P2,', header=NAMED.strip() + ',name\n')),
+    *(bad_table(f'{table}: record 2: {fault}', command=('audit', *more), **{table: rows(table, record)}) for table, fault, record, *more in (
+        ('providers', 'UnknownParent', 'P1,P1,P2'), ('inventories', 'ZeroStep', 'P1,VCPU,8,0,1,8,0,1'), ('usages', 'NoInventory', 'P1,MEMORY_MB,1'),
+        ('traits', 'BadTrait', 'P1,hw_x', '--zone', full('A1')), ('aggregates', 'UnknownProvider', 'P2,A1'))),
+]
+
 SIXTY_FOUR = '&'.join(f'resources{n}=VCPU:1' for n in range(1, 65)) + '&group_policy=none'
 EIGHT = '\n'.join(f'P{n} | {"P1" if n > 1 else ""} | VCPU total 8' for n in range(1, 9))
 EIGHT_EACH = ','.join(f'P{n}' for n in range(1, 9) for _ in range(8))
@@ -753,7 +976,7 @@ MANY_GROUPS = [
     judged('64 groups fill 8 providers', EIGHT, SIXTY_FOUR, EIGHT_EACH, 'candidate'),
 ]
 
-SMALL = [*QUANTITIES, *RULES, *DETAILS, *LISTS, *FILLED, *CAPACITIES, *PAGES, *TOKENS, *TABLES, *HOSTS, *QUERIES, *WORDS, *MANY_GROUPS]
+SMALL = [*QUANTITIES, *RULES, *DETAILS, *LISTS, *FILLED, *CAPACITIES, *METRICS, *AUDITS, *PAGES, *TOKENS, *TABLES, *HOSTS, *QUERIES, *WORDS, *MANY_GROUPS]
 
 
 def cuts():

@@ -14,6 +14,7 @@ import struct
 from dataclasses import dataclass, field, replace
 
 from cases import GREATEST, Case, full, lines, tables
+from metrics import metrics_of
 from notation import HEADERS
 
 RULES = 'Units', 'SlotTraits', 'Aggregates', 'Tree', 'Collective', 'Sums', 'Isolate', 'Subtree', 'Anchor'
@@ -21,7 +22,8 @@ CLASSES = 'DISK_GB', 'MEMORY_MB', 'VCPU'
 TRAITS = 'CUSTOM_A', 'CUSTOM_B'
 AGGREGATES = 'A1', 'A2'
 SHARES = 'MISC_SHARES_VIA_AGGREGATE'
-LIST_COLUMNS = '#', 'allocation', 'resource provider', 'name', 'inventory used/capacity', 'traits'
+LIST_COLUMNS = '#', 'allocation', 'resource provider', 'inventory used/capacity', 'traits', 'name'
+LEFT_HEADER = 'resource_provider,name,resource_class,capacity,used,left\n'
 LIST_HEADER = ','.join(LIST_COLUMNS) + '\n'
 SUFFIXES = '1', '10', '2', '_NET', 'a'
 DIFFERENCES = os.path.join(os.path.dirname(os.path.dirname(os.path.abspath(__file__))), 'docs', 'DIFFERENCES.md')
@@ -768,6 +770,13 @@ def usage_rows(cloud):
     return HEADERS['usages'] + ''.join(f'{name},{kind},{used}\n' for name, kind, used in rows), 0
 
 
+def left_rows(cloud, host=None):
+    """What is left of each inventory, or of those of a host's tree. No provider has a name."""
+    rows = [(provider.name, name, has.capacity(), has.used, max(has.capacity() - has.used, 0)) for provider in cloud if host is None or provider.root() is host.root()
+            for name, has in sorted(provider.has.items())]
+    return LEFT_HEADER + ''.join(f'{provider},,{name},{capacity},{used},{left}\n' for provider, name, capacity, used, left in rows)
+
+
 def request(assignment, query):
     mappings = {}
     for provider, (suffix, _) in zip(assignment, query.slots()):
@@ -784,9 +793,9 @@ def list_rows(found, query, cloud, traits=True):
         for provider in cloud:
             amounts = taken.get(provider.name)
             if amounts:
-                rows.append((number, ','.join(f'{name}={amounts[name]}' for name in sorted(amounts)), provider.name, '',
+                rows.append((number, ','.join(f'{name}={amounts[name]}' for name in sorted(amounts)), provider.name,
                              ','.join(f'{name}={provider.has[name].used}/{provider.has[name].capacity()}' for name in sorted(provider.has)),
-                             ','.join(sorted(provider.traits)) if traits else ''))
+                             ','.join(sorted(provider.traits)) if traits else '', ''))
     out = io.StringIO()
     csv.writer(out, lineterminator='\n').writerows([LIST_COLUMNS, *rows])
     return out.getvalue()
@@ -914,6 +923,8 @@ def asked(name, chance, cloud, query, every, judged):
     rows = [capacity_row(flavor, count, found, placed, most, short, query, cloud) for flavor, count in (('one', 1), ('some, "quoted"', wanted))]
     flavors = written([['query', 'wanted', 'flavor'], [text, '', 'one'], [text, wanted, 'some, "quoted"']])
     yield Case(f'{name}: capacity', ['capacity', *version], written([CAPACITY, *rows]), status=0 if len(placed) >= max(1, wanted) else 1,
+               tables={**made, 'flavors': flavors})
+    yield Case(f'{name}: capacity, as metrics', ['capacity', '--prometheus', *version], metrics_of(rows), status=0 if len(placed) >= max(1, wanted) else 1,
                tables={**made, 'flavors': flavors})
     yield Case(f'{name}: explain', ['explain', text, *version], full(explanation(found, query, cloud)), status=0 if found else 1, tables=made)
     yield Case(f'{name}: hosts', ['hosts', text, *version], full(host_rows(found, drawn_text, query, cloud)), status=0 if found else 1, tables=made)

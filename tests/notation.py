@@ -25,6 +25,11 @@ def full(text):
     return re.sub(r'\b([PA])(\d+)\b', lambda name: provider(int(name[2]) + (0xa0 if name[1] == 'A' else 0)), text)
 
 
+def shown(name):
+    """A name, in bytes, as the program shows it: with `?` for each byte below 32, for 127, and for each that isn't UTF-8."""
+    return re.sub(r'[\x00-\x1f\x7f\udc80-\udcff]', '?', name.decode(errors='surrogateescape'))
+
+
 def inventory(cell):
     """The class, the six numbers of a row of inventories, and how much is used, or None if that isn't said."""
     name, *numbers = cell.replace(',', ' ').split()

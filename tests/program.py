@@ -20,7 +20,8 @@ sys.dont_write_bytecode = True
 HERE = os.path.dirname(os.path.abspath(__file__))
 sys.path += [os.path.join(os.path.dirname(HERE), 'tools'), *(os.path.join(HERE, folder) for folder in ('documents', 'flavors', 'limits', 'release'))]
 
-from cases import CAPACITY_HEAD, CHILD, ONE, SHARED, SMALL, SOME, Case, cuts, full, lines, tables
+from audits import drawn_audits
+from cases import AUDIT_HEAD, CAPACITY_HEAD, CHILD, ODD_FLAVORS, ONE, PLANTED, SHARED, SMALL, SOME, TWO_FIT, TWO_SHORT, Case, cuts, full, lines, tables
 from cliffs import cliffs
 from database import database_exports
 from examples import examples
@@ -29,6 +30,8 @@ from faults import drawn_queries, drawn_tables
 from flavor_queries import flavor_queries
 from hostile import hostile
 from large import LARGE, MOST_PROVIDERS, QUERY_BYTES, roots, vcpu
+from log_lines import FOUND, REFUSED
+from metrics import METRICS, read
 from model import difference_line, drawn, headings, words_of
 from notation import HEADERS, provider
 from release import NO_PROGRAM, UNBUILT, clone, releases, without_program
@@ -47,7 +50,7 @@ INVENTORIES = os.path.join(EXAMPLES, 'inventories.csv')
 CLOUD = os.path.join(EXAMPLES, 'cloud')
 NO_FILE = os.path.join(EXAMPLES, 'no_such_file.csv')
 ONE_HOST = '2b7d9e54-61c8-4f03-8a9d-c4e1b05f3a27\n'
-COMMANDS = 'check', 'candidates', 'tokens', 'list', 'fill', 'verify', 'explain', 'hosts', 'why', 'capacity', 'session'
+COMMANDS = 'check', 'candidates', 'tokens', 'list', 'fill', 'verify', 'explain', 'hosts', 'why', 'capacity', 'audit', 'session'
 STATUSES = {'no: rule': 1, 'unknown provider': 1, 'query': 4, 'flavors:': 4, 'token': 5, 'host:': 5, 'output': 6, 'out of memory': 7,
             **dict.fromkeys(('providers:', 'inventories:', 'usages:', 'traits:', 'aggregates:'), 3)}
 SHELLS = [shell for shell in ('bash', 'dash', 'zsh') if shutil.which(shell)]
@@ -164,6 +167,21 @@ WORDS = [
       for value in ('', 'az1', ONE_HOST.strip()[:-1])),
     refused('--in without a value', over(['hosts', 'resources=VCPU:2', '--in']), '--in'),
     refused('--in for why', over(['why', 'resources=VCPU:2', ONE_HOST.strip(), '--in', ONE_HOST.strip()]), '--in'),
+    refused('a query for an audit', over(['audit', 'resources=VCPU:2']), "unexpected argument 'resources=VCPU:2' found", 'Usage: ac_cli audit'),
+    *(refused(f'{value} for --zone', over(['audit', f'--zone={value}']), f"invalid value '{value}' for '--zone <UUID>'", 'Usage: ac_cli audit')
+      for value in ('', 'az1', ONE_HOST.strip()[:-1], f'{ONE_HOST.strip()},{ONE_HOST.strip()}')),
+    refused('--zone without a value', over(['audit', '--zone']), '--zone <UUID>'),
+    refused('--zone twice', over(['audit', '--zone', ONE_HOST.strip(), '--zone', ONE_HOST.strip()]), "'--zone <UUID>' cannot be used multiple times", 'Usage: ac_cli audit'),
+    refused('--zone and tables that are not there', ['audit', '--zone', 'az1', '--tables', NO_FILE], "'--zone <UUID>'"),
+    refused('no tables for an audit', ['audit'], '--providers <FILE>\n  --inventories <FILE>', 'Usage: ac_cli audit', '--tables <DIR>'),
+    *(refused(f'{words[0]} for an audit', over(['audit', *words]), f"unexpected argument '{words[0]}' found", 'Usage: ac_cli audit')
+      for words in (['--in', ONE_HOST.strip()], ['--tries', '9'], ['--microversion', '1.36'], ['--sum'], ['--prometheus'], ['--after', ONE_HOST.strip()])),
+    *(refused(f'--zone for {name}', over([name, *words, '--zone', ONE_HOST.strip()]), "unexpected argument '--zone' found") for name, words in (
+        ('check', []), ('hosts', ['resources=VCPU:2']), ('capacity', [NO_FILE]))),
+    *(refused(f'--prometheus for {name}', over([name, *words, '--prometheus']), "unexpected argument '--prometheus' found") for name, words in (
+        ('check', []), ('fill', ['resources=VCPU:2']), ('session', []))),
+    refused('--prometheus with a value', over(['capacity', NO_FILE, '--prometheus=yes']), "unexpected value 'yes' for '--prometheus' found"),
+    refused('--prometheus twice', over(['capacity', NO_FILE, '--prometheus', '--prometheus']), "'--prometheus' cannot be used multiple times"),
     refused('no host for why', over(['why', 'resources=VCPU:2']), '<HOST>', 'Usage: ac_cli why'),
     *(refused(f'{value} for --tries', [*tokens('resources=VCPU:2'), f'--tries={value}'], f"invalid value '{value}' for '--tries <N>'", 'Usage: ac_cli tokens')
       for value in ('', '-1', 'x', '1.5', '2147483648')),
@@ -205,6 +223,7 @@ WORDS = [
          ONE_HOST),
 ]
 
+NO_USAGES = 'no storage,c93e1f08-7a4b-4d26-b5f1-0e8d2c6a9b44,compute-03,"VCPU in its tree, and no DISK_GB there, its own or shared"\nno usage,,,9 of 9 inventories have no row\n'
 EXAMPLE_COUNTS = 'providers 4\ninventories 9\nusages 0\ntraits 0\naggregates 0\n'
 BLANK = 'cd "$(mktemp -d)" && cp "$2" "providers.csv " && "$1" check --providers "providers.csv " --inventories "$3" && rm -r "$PWD"'
 FILES = [
@@ -233,6 +252,11 @@ FILES = [
          given=b'tokens resources=VCPU:12&required=!CUSTOM_A&required=!CUSTOM_B\n'),
     Case('a folder for the questions', ['sh', '-c', 'exec "$1" session --tables examples/cloud < examples', 'session', PROGRAM], err='questions: Unreadable\n', status=3),
     unreadable('no file of providers for a session', over(['session'], NO_FILE), 'providers'),
+    unreadable('no file of providers for an audit', over(['audit'], NO_FILE), 'providers'),
+    unreadable('a folder for the usages of an audit', [*over(['audit']), '--usages', EXAMPLES], 'usages'),
+    Case('an audit without tables of usages, traits and aggregates', over(['audit']), AUDIT_HEAD + NO_USAGES, status=1),
+    Case('flavors through a pipe, as metrics', ['sh', '-c', 'exec "$@" | grep at_most{', 'metrics', PROGRAM, *over(['capacity', '/dev/stdin']), '--prometheus'],
+         'ac_flavor_at_most{flavor="one"} 3\n', given=b'flavor,query\none,resources=VCPU:6&in_tree=' + ONE_HOST.strip().encode() + b'\n'),
     Case('flavors through a pipe', over(['capacity', '/dev/stdin']), CAPACITY_HEAD + 'one,1,3,3,1,VCPU,1\n', given=b'flavor,query\none,resources=VCPU:6&in_tree=' + ONE_HOST.strip().encode() + b'\n'),
     *(Case(f'{name} for the table of flavors', over(['capacity', path]), err='flavors: Unreadable\n', status=4) for name, path in (('no file', NO_FILE), ('a folder', EXAMPLES))),
     Case('a table of flavors without end', over(['capacity', '/dev/zero']), err='flavors: TooLarge\n', status=4),
@@ -261,8 +285,14 @@ DRIVER = [
     Case('clients/python: its tests', ['sh', '-c', 'exec python3 clients/python/test_ac_session.py "$1"', 'driver', PROGRAM]),
 ]
 
+# unittest tells on standard error how many tests there were.
+REPORT = [Case(f'tools/report: the page, {how}', ['sh', '-c', 'exec python3 -B tests/report/test_report.py "$1" "$2"', 'report', PROGRAM, tests], err=SOME)
+          for how, tests in (('as it is written', 'Written'), ('as Chromium shows it', 'Shown'))]
+
 FOLDERS = [
     by_folder('check'),
+    by_folder('audit'),
+    by_folder('audit', '--zone', '0d4b7c19-83ea-4f20-b5d6-1e9a72c8f3a1'),
     by_folder('candidates', DISK_AND_HOST),
     by_folder('candidates', DISK_AND_HOST, '--no-traits'),
     by_folder('list', DISK_AND_HOST, '--after', OVER_DISK),
@@ -292,6 +322,7 @@ def in_detail(*words, status=0):
 
 DETAILS = [
     in_detail('check'),
+    in_detail('audit'),
     Case('check in detail without a table of usages', ['check', '--providers', PROVIDERS, '--inventories', INVENTORIES, '--detail'], EXAMPLE_COUNTS,
          err='usages: no table is given, so nothing counts as used\n'),
     Case('a table in detail that is not there', ['check', '--tables', 'nowhere', '--detail'],
@@ -328,6 +359,9 @@ PASTED = [
     Case('pasted: a mark behind an ampersand drops nothing', tokens('a&b?' + TWELVE), err='query: pair 1: UnknownParameter\n', status=4),
     Case('pasted: an encoded mark is none', tokens('a%3F' + TWELVE), err='query: pair 1: UnknownParameter\n', status=4),
     Case('pasted: a token keeps its mark', [*tokens(TWELVE), '--after', '?' + ONE_HOST.strip()], err='token: BadToken\n', status=5),
+    *(Case(f'pasted: {name}', tokens(line), ONE_HOST) for name, line in FOUND.items()),
+    *(Case(f'pasted: {name}', tokens(line), err=f'query: {fault}\n', status=4) for name, (line, fault, _) in REFUSED.items()),
+    *(Case(f'pasted, in detail: {name}', [*tokens(line), '--detail'], err=f'query: {fault}\n{told}', status=4) for name, (line, fault, told) in REFUSED.items() if told),
 ]
 
 
@@ -344,6 +378,8 @@ HOSTS = {'providers': roots(2000), 'inventories': vcpu(2000)}
 LONG_NAMES = '&'.join(f'resources{n}=' + ','.join(f'C{n}_{k}_'.ljust(240, 'C') + ':1' for k in range(4)) for n in range(10, 74)) + '&group_policy=none'
 LONG = (('tokens', 'resources=VCPU:2', HOSTS), ('candidates', 'resources=VCPU:2', HOSTS), ('list', 'resources=VCPU:2', HOSTS), ('fill', 'resources=VCPU:2', HOSTS), ('explain', LONG_NAMES, tables(ONE)), ('hosts', 'resources=VCPU:2', HOSTS))
 
+MANY_FLAVORS = 'flavor,query\n' + ''.join(f'{"x" * 200}{n},resources=VCPU:2\n' for n in range(400))
+
 DEVICES = [
     to_full('without words', []),
     to_full('help', ['--help']),
@@ -359,6 +395,10 @@ DEVICES = [
     to_full('explain', over(['explain', 'resources=VCPU:2'])),
     to_full('hosts', over(['hosts', 'resources=VCPU:2'])),
     to_full('capacity', over(['capacity']), flavors='flavor,query\none,resources=VCPU:2\n'),
+    to_full('capacity, as metrics', over(['capacity', '--prometheus']), flavors='flavor,query\none,resources=VCPU:2\n'),
+    to_full('audit', over(['audit'])),
+    *(made(f'more than is gathered, {name}', words, **cloud) for made in (to_full, to_nobody) for name, words, cloud in (
+        ('audit', ['audit'], HOSTS), ('capacity, as metrics', ['capacity', '--prometheus'], {**tables(ONE), 'flavors': MANY_FLAVORS}))),
     to_full('why', over(['why', 'resources=VCPU:2', ONE_HOST.strip()])),
     Case('a full device: nothing to write', tokens('resources=DISK_GB:3000'), to='/dev/full'),
     to_nobody('tokens', tokens('resources=VCPU:2')),
@@ -404,6 +444,9 @@ GROWTHS = [
     growing('hosts', ['hosts', DISK], SHARED),
     growing('hosts, no candidate', ['hosts', FIVES], ONE),
     growing('capacity', ['capacity'], SHARED, flavors=full(f'flavor,query,wanted\none,"{DISK}",2\nnone,"{DISK}&root_required=CUSTOM_A",\n')),
+    growing('capacity, as metrics', ['capacity', '--prometheus'], SHARED, flavors=full(f'flavor,query,wanted\n"one, ""1""\n",{TWO},2\nnone,"{DISK}&root_required=CUSTOM_A",\n')),
+    growing('audit', ['audit', '--zone', 'A3'], PLANTED),
+    growing('audit, nothing is amiss', ['audit', '--tables', CLOUD]),
     growing('capacity, a refused query', ['capacity', '--detail'], ONE, flavors='flavor,query\none,resources=VCPU\n'),
     growing('hosts, a required trait', ['hosts', TWO + '&required=CUSTOM_A'], ONE),
     growing('why', ['why', DISK, 'P1'], SHARED),
@@ -421,11 +464,38 @@ GROWTHS = [
 REFUSALS = [Case(f'each growth refused, in the tests of {name}', ['sh', '-c', f'exec python3 -B tests/memory/refusals.py {name}'], SOME)
             for name in ('ac_read_tests', 'ac_search_tests', 'ac_run_tests')]
 
+
+def as_metrics(name, flavors, cloud=ONE, *words):
+    """What `capacity --prometheus` writes must be read as Prometheus reads it, with the numbers of the CSV, by tests/metrics.py."""
+    return Case(f'metrics are read: {name}', ['sh', '-c', 'exec python3 -B tests/metrics.py "$@"', 'metrics', PROGRAM, 'capacity', *words], tables={**tables(cloud), 'flavors': flavors})
+
+
+AS_METRICS = [
+    Case('metrics are read: the flavors of the examples', ['sh', '-c', 'exec python3 -B tests/metrics.py "$@"', 'metrics', PROGRAM, 'capacity', 'examples/flavors.csv', '--tables', 'examples/private']),
+    as_metrics('two flavors, each short of another class', f'flavor,query,wanted\nb,{TWO_FIT},9\na,resources=VCPU:8,0\n', TWO_SHORT),
+    as_metrics('odd names', ODD_FLAVORS),
+    as_metrics('names that are no text', b'flavor,query\na\xffb,resources=VCPU:9\n\xf0\x9f\x98x,resources=VCPU:4\n\xc2\x85,resources=VCPU:4\n'),
+    as_metrics('no flavor', 'flavor,query\n'),
+    as_metrics('flavors that fit nowhere', 'flavor,query\na,"resources_A=VCPU:9,VGPU:1"\nb,resources=VCPU:1&root_required=CUSTOM_A\n'),
+    as_metrics('the greatest numbers', 'flavor,query,wanted\na,resources=VCPU:2147483647,2147483647\n', 'P1 | | VCPU total 2147483647, allocation_ratio 2.9'),
+    as_metrics('many flavors', MANY_FLAVORS),
+    as_metrics('a refused query', 'flavor,query\na,resources=VCPU\n'),
+    as_metrics('by version 1.39', 'flavor,query\na,resources=VCPU:1&required=A&required=B\n', ONE, '--microversion', '1.39'),
+]
+
 KNOWN = Case('a fault is told though a growth behind it is refused', ['sh', '-c', 'exec python3 -B tests/memory/known_faults.py "$0"', PROGRAM], SOME)
+
+
+METRIC = f'# HELP ac_flavor_{next(iter(METRICS))} '
 
 
 def status_of(text):
     """The status that goes with an answer or a fault line."""
+    if text.startswith(AUDIT_HEAD):
+        return int(text != AUDIT_HEAD)
+    if text.startswith(METRIC):
+        least, wanted = ([number for _, number in read(text)[f'ac_flavor_{name}'][1]] for name in ('at_least', 'wanted'))
+        return int(any(one < other for one, other in zip(least, wanted)))
     if re.search('^candidates: none$|^verdict,(?!.*,fits$)', text, re.M):
         return 1
     if text.startswith(CAPACITY_HEAD):
@@ -578,9 +648,9 @@ def main(*given):
     pages += shown('docs/SESSION.md', SHELLS)
     if 'AC_CLI' not in os.environ:
         pages += [*releases(lines('P1')), *shown('README.md', launcher=os.path.join(clone(), 'ac_cli'))]
-    chance = [*drawn(150), *drawn_tables(200), *drawn_queries(200)]
+    chance = [*drawn(150), *drawn_audits(300), *drawn_tables(200), *drawn_queries(200)]
     linked = STATIC if os.path.isfile(os.path.join(ROOT, 'out', 'ac_cli.o')) and 'AC_CLI' not in os.environ else []
-    cases = [PAGES, CRATES, DRAWING, *linked, *HELP, *WORDS, *FILES, *FOLDERS, *DRIVER, *DETAILS, *second_lines(), *PASTED, *DEVICES, *GROWTHS, KNOWN, *REFUSALS, *SMALL, *pages, remade('examples/private/README.md'),
+    cases = [PAGES, CRATES, DRAWING, *linked, *HELP, *WORDS, *FILES, *FOLDERS, *DRIVER, *REPORT, *DETAILS, *second_lines(), *PASTED, *DEVICES, *GROWTHS, *AS_METRICS, KNOWN, *REFUSALS, *SMALL, *pages, remade('examples/private/README.md'),
              *rules, *examples(), *concerned(), *exports(), *database_exports(), *flavor_queries(), *sessions(PROGRAM), *chance, *LARGE, *hostile(PROGRAM), *cliffs(PROGRAM), *tries(PROGRAM), FEW_BYTES, *cuts()]
     cases = [case for case in cases if all(word in case.name for word in words)]
     failed = 0

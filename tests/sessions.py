@@ -23,9 +23,11 @@ import subprocess
 import sys
 import tempfile
 
+sys.path.append(os.path.join(os.path.dirname(os.path.abspath(__file__)), 'documents'))
 from cases import CHILD, ONE, SOME, Case, full, lines, tables
-from model import (LIST_HEADER, RULES, body, bound, claim, draw_cloud, draw_query, explanation, filled, has_candidate, host_rows, judgement, list_rows, names,
-                   place_all, release, sum_text, usage_rows, why_rows)
+from log_lines import FOUND
+from model import (LEFT_HEADER, LIST_HEADER, RULES, body, bound, claim, draw_cloud, draw_query, explanation, filled, has_candidate, host_rows, judgement,
+                   left_rows, list_rows, names, place_all, release, sum_text, usage_rows, why_rows)
 from notation import HEADERS
 
 ROOT = os.path.dirname(os.path.dirname(os.path.abspath(__file__)))
@@ -58,6 +60,10 @@ FAULTS = [
     ('check\t', ended('', 2, UNKNOWN)),
     ('session', ended('', 2, UNKNOWN)),
     ('--help', ended('', 2, UNKNOWN)),
+    ('#', ''),
+    (f'# claim {TWO} P1', ''),
+    (' # check', ended('', 2, UNKNOWN)),
+    ('audit x', ended('', 2, NUMBER)),
     ('check ', ended('', 2, NUMBER)),
     ('check x', ended('', 2, NUMBER)),
     *((command, ended('', 2, NUMBER)) for command in ('candidates', 'tokens', 'list', 'fill', 'count', 'verify', 'explain', 'hosts', 'why', 'claim', 'release')),
@@ -65,6 +71,8 @@ FAULTS = [
     *((f'{command} {TWO} P1', ended('', 2, NUMBER)) for command in ('fill', 'count', 'explain', 'hosts')),
     *((f'{command} {TWO} P1 P1', ended('', 2, NUMBER)) for command in ('candidates', 'tokens', 'list', 'verify', 'why', 'claim', 'release')),
     ('usages all', ended('', 2, NUMBER)),
+    ('left P1 P1', ended('', 2, NUMBER)),
+    ('help tokens', ended('', 2, NUMBER)),
     (f'verify --detail {TWO} P1', ended('', 2, NUMBER)),
     (f'list --no-traits {TWO} P1', ended('', 2, NUMBER)),
     (f'fill --sum {TWO}', ended('', 2, NUMBER)),
@@ -72,7 +80,7 @@ FAULTS = [
     (f'tokens {TWO} ', ended('', 5, 'token: BadToken')),
     (f'tokens  {TWO}', ended('', 4, 'query: NoResources')),
     ('tokens ', ended('', 4, 'query: NoResources')),
-    (f'tokens /placement/allocation_candidates?{TWO}', ended('', 4, 'query: pair 1: UnknownParameter')),
+    (f'tokens a&b?{TWO}', ended('', 4, 'query: pair 1: UnknownParameter')),
     *((f'{command} resources=VCPU P1', ended('', 4, 'query: pair 1: BadValue')) for command in ('tokens', 'verify', 'claim', 'release', 'why')),
     *((f'{command} {TWO} P1,', ended('', 5, 'token: BadToken')) for command in ('candidates', 'tokens', 'list', 'verify', 'claim', 'release')),
     *((f'{command} {TWO} P1,P7', ended('', 5, 'token: WrongLength')) for command in ('candidates', 'tokens', 'list', 'verify', 'claim', 'release')),
@@ -86,16 +94,38 @@ FAULTS = [
     ('usages', ended(HEADERS['usages'], 0)),
     (f'tokens {TWO}', ended('P1\n', 0)),
     ('tokens resources=VCPU:9', ended('', 0)),
-    (f'list {TWO}', ended(LIST_HEADER + '1,VCPU=2,P1,,VCPU=0/8,\n', 0)),
+    (f'list {TWO}', ended(LIST_HEADER + '1,VCPU=2,P1,VCPU=0/8,,\n', 0)),
     (f'list {TWO} P1', ended(LIST_HEADER, 0)),
     ('check', ended(COUNTS, 0)),
+    ('audit', ended('kind,provider,name,detail\nno storage,P1,,"VCPU in its tree, and no DISK_GB there, its own or shared"\n'
+                    'no usage,,,1 of 1 inventories have no row\n', 1)),
+]
+
+# A query behind the path of a URL, and in a line of a log, which is the last thing on its line. A line that ends with a blank has one word more.
+SIXTEEN = tables('P1 | | VCPU total 16')
+URL = f'/placement/allocation_candidates?{TWO}'
+PASTED = [
+    *((f'tokens {line}', ended('P1\n', 0)) for line in FOUND.values() if line == line.rstrip()),
+    (f'tokens {URL} P1', ended('', 0)),
+    (f'verify {URL} P1', ended('candidate\n', 0)),
+    (f'why {URL} P7', ended('', 5, 'host: Unknown')),
+    (f'claim http://controller:8778{URL} P1', ended('claimed\n', 0)),
+    (f'release "GET {URL} P1', ended('', 2, NUMBER)),
+    (f'release {URL} P1', ended('released\n', 0)),
+    *((f'{command} GET {URL}&limit=1 HTTP/1.1', ended('P1\n', 0)) for command in ('tokens', 'fill')),
+    (f'count 127.0.0.1 "GET {URL}" status: 200', ended('at least 7, at most 7: short of VCPU at 1 host\n', 0)),
+    (f'verify GET {URL} P1', ended('', 2, NUMBER)),
+    (f'tokens {URL} ', ended('', 5, 'token: BadToken')),
+    (f'explain {URL} ', ended('', 2, NUMBER)),
+    ('check /a?b', ended('', 2, NUMBER)),
+    ('usages GET /a?b', ended('', 2, NUMBER)),
 ]
 
 # A provider whose name looks like the end of an answer: no line of an answer but its last begins with `=`.
 NAMED = {**tables(ONE), 'providers': full('uuid,name,root_provider_uuid,parent_provider_uuid\nP1,"\n= 0\n=",P1,\n')}
 LIKE_ENDS = [
     (f'hosts {TWO}', ended('root,name,fits,slot,lacks,asks,detail\nP1,?= 0?=,yes,,,,\n', 0)),
-    (f'list {TWO}', ended(LIST_HEADER + '1,VCPU=2,P1,?= 0?=,VCPU=0/8,\n', 0)),
+    (f'list {TWO}', ended(LIST_HEADER + '1,VCPU=2,P1,VCPU=0/8,,?= 0?=\n', 0)),
     (f'why {TWO} P1', ended('slot,suffix,asks,provider,name,lacks,detail\n1,,VCPU:2,P1,?= 0?=,,\nroot,,,P1,?= 0?=,,\nverdict,,,P1,?= 0?=,,fits\n', 0)),
     (f'tokens {TWO}', ended('P1\n', 0)),
 ]
@@ -122,6 +152,46 @@ PLACED = [
     (f'hosts resources=VCPU:8', ended('root,name,fits,slot,lacks,asks,detail\nP1,,yes,,,,\n', 0)),
 ]
 
+# What may be asked, in words.
+HELP = """
+check                     how many rows each table has
+tokens QUERY [TOKEN]      the allocation candidates, or those after a token, one a line
+candidates QUERY [TOKEN]  the same as JSON, with summaries of their providers
+list QUERY [TOKEN]        the same as a table
+explain QUERY             how far the query comes, and why there is no candidate
+hosts QUERY               which roots fit, and what the others lack
+why QUERY HOST            what the providers of a host lack
+verify QUERY TOKEN        whether a token is a candidate
+count QUERY               how many more of the same fit
+fill QUERY                places the same again and again, and claims each placement
+claim QUERY TOKEN         claims a candidate
+release QUERY TOKEN       gives back what a claim took
+left [HOST]               what is left of each inventory, or of those of a host's tree
+usages                    what is used, as a table
+audit                     what is amiss in the cloud
+help                      these lines
+"""[1:]
+
+# What is left: of a host's tree alone, where a host is named, by any provider of it or its UUID; of what is used beyond the capacity nothing.
+TREES = {**tables("""P1 | | VCPU total 8, allocation_ratio 1.5, used 3
+P2 | P1 | PCPU total 4, reserved 1; VGPU total 2, used 5
+P3 | | DISK_GB total 10
+P4 | P3"""), 'providers': full('uuid,name,root_provider_uuid,parent_provider_uuid\nP1,"one, two",P1,\nP2,,P1,P1\nP3,disk,P3,\nP4,disk,P3,P3\n')}
+FIRST = 'P1,"one, two",VCPU,12,3,9\nP2,,PCPU,3,0,3\nP2,,VGPU,2,5,0\n'
+LEFT = [
+    ('left', ended(LEFT_HEADER + FIRST + 'P3,disk,DISK_GB,10,0,10\n', 0)),
+    ('left P1', ended(LEFT_HEADER + FIRST, 0)),
+    ('left P2', ended(LEFT_HEADER + FIRST, 0)),
+    ('left P4', ended(LEFT_HEADER + 'P3,disk,DISK_GB,10,0,10\n', 0)),
+    ('left disk', ended('', 5, 'host: Ambiguous')),
+    ('left P7', ended('', 5, 'host: Unknown')),
+    ('left ', ended('', 5, 'host: Unknown')),
+    ('claim resources=VCPU:8 P1', ended('claimed\n', 0)),
+    ('left P1', ended(LEFT_HEADER + FIRST.replace(',3,9', ',11,1'), 0)),
+    ('release resources=VCPU:11 P1', ended('released\n', 0)),
+    ('left P1', ended(LEFT_HEADER + FIRST.replace(',3,9', ',0,12'), 0)),
+]
+
 # One inventory of which more may be used than a table can state.
 GREAT = tables('P1 | | VCPU total 2147483647, allocation_ratio 4.0')
 ALL = 'resources=VCPU:2147483647'
@@ -131,6 +201,7 @@ TOO_MUCH = [
     ('claim resources=VCPU:1 P1', ended('claimed\n', 0)),
     ('usages', ended('too much in use to be written\n', 1)),
     (f'claim {ALL} P1', ended('claimed\n', 0)),
+    ('left', ended(LEFT_HEADER + 'P1,,VCPU,8589934588,4294967295,4294967293\n', 0)),
     (f'release {ALL} P1', ended('released\n', 0)),
     ('release resources=VCPU:1 P1', ended('released\n', 0)),
     ('usages', ended(HEADERS['usages'] + 'P1,VCPU,2147483647\n', 0)),
@@ -252,6 +323,9 @@ ENDS = [
     behind('what lines answer', FAULTS),
     behind('the same, with carriage returns', FAULTS[:6] + FAULTS[7:], '\r\n'),
     behind('a name that looks like the end of an answer', LIKE_ENDS, made=NAMED),
+    behind('a query as it is pasted', PASTED, made=SIXTEEN),
+    behind('what is left', LEFT, made=TREES),
+    behind('help', [('help', ended(HELP, 0))]),
     behind('claims and releases', PLACED, made=tables(CHILD)),
     behind('claims and releases on one provider', list(stepped(IN_ONE))),
     behind('claims and releases on two providers', list(stepped(IN_TWO)), made=tables(CHILD)),
@@ -338,7 +412,7 @@ def draw_assignment(chance, query, cloud):
 
 
 JOBS = 'tokens', 'tokens after', 'candidates', 'list', 'count', 'verify', 'explain', 'hosts', 'why'
-KINDS = 'job', 'job', 'claim', 'claim', 'claim', 'release', 'release', 'fill', 'usages', 'fault'
+KINDS = 'job', 'job', 'claim', 'claim', 'claim', 'release', 'release', 'fill', 'usages', 'left', 'fault'
 
 
 def draw_turn(chance, cloud, queries, claimed):
@@ -346,8 +420,11 @@ def draw_turn(chance, cloud, queries, claimed):
     kind, asked = chance.choice(KINDS), chance.choice(queries)
     if kind == 'usages':
         return 'usages', ended(*usage_rows(cloud))
+    if kind == 'left':
+        host = chance.choice([None, *cloud])
+        return f'left {host.name}' if host else 'left', ended(left_rows(cloud, host), 0)
     if kind == 'fault':
-        return chance.choice([*FAULTS[:48], ('', '')])
+        return chance.choice([*FAULTS[:50], ('', '')])
     if kind == 'fill':  # few, so that there is room for what comes after
         limit = chance.randint(1, 2)
         placed = place_all(asked[0], cloud, limit)
@@ -572,6 +649,8 @@ def untried():
     """What isn't tried here, and why."""
     if not shutil.which('parallel'):
         yield 'docs/SESSION.md: the command by GNU parallel, which isn\'t installed'
+    if not (shutil.which('chromium') and shutil.which('chromedriver')):
+        yield 'tools/report: the page, as Chromium shows it: chromium or chromedriver isn\'t installed'
 
 
 def main(mode, program, *number):

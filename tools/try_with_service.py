@@ -1,9 +1,13 @@
 #!/usr/bin/env python3
-"""tools/try_with_service.py URL PROGRAM NAME CLIENT [ARG..]: tries the exports and the program PROGRAM with the service at URL, whose database
+"""tools/try_with_service.py URL PROGRAM NAME [CLIENT [ARG..]]: tries the exports and the program PROGRAM with the service at URL, whose database
 CLIENT ARG.. opens. tools/try-with-service.sh starts that service and calls this script. NAME is the database's name in the output.
 
 Each cloud is put into the service by its API and exported in both ways. Then service and program are asked the same queries. Last come the clouds
-and queries of docs/DIFFERENCES.md, for which the service must answer as that page says. The status is 0 only if all went as it should."""
+and queries of docs/DIFFERENCES.md, for which the service must answer as that page says, and the files of examples/gabbi, whose tests of a mistake
+must fail. The status is 0 only if all went as it should.
+
+Without CLIENT the service is somebody else's: the exports aren't tried, and the program reads what the service's API tells of each cloud. NAME is
+empty if its database isn't known. The service must have no resource providers; those that it gets from others in the meantime stay in it."""
 from __future__ import annotations
 
 import csv
@@ -26,7 +30,8 @@ ROOT = os.path.dirname(os.path.dirname(os.path.abspath(__file__)))
 sys.dont_write_bytecode = True
 sys.path.insert(0, os.path.join(ROOT, 'tests'))
 
-from notation import full, tables as tables_of  # noqa: E402
+import gabbi_files  # noqa: E402
+from notation import HEADERS, full, tables as tables_of  # noqa: E402
 
 TABLES = 'providers', 'inventories', 'usages', 'traits', 'aggregates'
 VERSION = '1.36'
@@ -48,13 +53,14 @@ class Refused(Exception):
 class Service:
     """The service's API, without a client."""
 
-    def __init__(self, url):
-        self.url = url
+    def __init__(self, url, token='admin'):
+        self.url, self.token = url, token
+        self.made = set()
 
     def ask(self, method, path, body=None, version=VERSION):
         """The status, and the body: what its JSON says, or else its text."""
         data = None if body is None else json.dumps(body).encode()
-        headers = {'X-Auth-Token': 'admin', 'OpenStack-API-Version': f'placement {version}', 'Accept': 'application/json',
+        headers = {'X-Auth-Token': self.token, 'OpenStack-API-Version': f'placement {version}', 'Accept': 'application/json',
                    'Content-Type': 'application/json'}
         request = urllib.request.Request(self.url + path, data, headers, method=method)
         try:
@@ -76,9 +82,12 @@ class Service:
     def candidates(self, query, version=VERSION):
         return self.ask('GET', '/allocation_candidates?' + query, version=version)
 
+    def providers(self):
+        return self.do('GET', '/resource_providers')['resource_providers']
+
     def clear(self):
-        """Deletes all allocations and providers."""
-        left = self.do('GET', '/resource_providers')['resource_providers']
+        """Deletes all providers that were put in from here, and their allocations."""
+        left = [provider for provider in self.providers() if provider['uuid'] in self.made]
         for provider in left:
             held = self.do('GET', f'/resource_providers/{provider["uuid"]}/allocations')
             for consumer in held['allocations']:
@@ -103,6 +112,7 @@ class Service:
             body = {'uuid': row['uuid'], 'name': row.get('name') or row['uuid']}
             if row['parent_provider_uuid']:
                 body['parent_provider_uuid'] = row['parent_provider_uuid']
+            self.made.add(row['uuid'])
             generations[row['uuid']] = self.do('POST', '/resource_providers', body)['generation']
         for provider in generations:
             self.give(provider, generations[provider], {name: [row for row in cloud.get(name, ()) if row['resource_provider'] == provider]
@@ -127,6 +137,19 @@ class Service:
         self.put(f'{path}/inventories', generation, 'inventories', {
             row['resource_class']: {**{name: int(row[name]) for name in NUMBERS}, 'allocation_ratio': float(row['allocation_ratio'])}
             for row in has['inventories']})
+
+    def cloud(self):
+        """The cloud that the service has, as its API tells it."""
+        cloud = {name: [] for name in TABLES}
+        for provider in self.providers():
+            one, path = {'resource_provider': provider['uuid']}, f'/resource_providers/{provider["uuid"]}'
+            inventories, used = self.do('GET', f'{path}/inventories')['inventories'], self.do('GET', f'{path}/usages')['usages']
+            cloud['providers'].append(provider)
+            cloud['inventories'] += [{**one, 'resource_class': name, **numbers} for name, numbers in inventories.items()]
+            cloud['usages'] += [{**one, 'resource_class': name, 'usage': amount} for name, amount in used.items()]
+            cloud['traits'] += [{**one, 'name': name} for name in self.do('GET', f'{path}/traits')['traits']]
+            cloud['aggregates'] += [{**one, 'uuid': member} for member in self.do('GET', f'{path}/aggregates')['aggregates']]
+        return cloud
 
     def put(self, path, generation, name, value):
         if not value:
@@ -162,6 +185,15 @@ def of_folder(folder):
         with open(os.path.join(folder, name + '.csv'), encoding='utf-8', newline='') as file:
             cloud[name] = list(csv.DictReader(file))
     return cloud
+
+
+def write(folder, cloud):
+    """Writes the tables of a cloud into this folder, with the columns that the program needs."""
+    for name, header in HEADERS.items():
+        with open(os.path.join(folder, name + '.csv'), 'w', encoding='utf-8', newline='') as file:
+            table = csv.DictWriter(file, header.strip().split(','), extrasaction='ignore', lineterminator='\n')
+            table.writeheader()
+            table.writerows(cloud[name])
 
 
 def drawn(hosts=24, seed=24):
@@ -304,16 +336,26 @@ def differences(database):
                 yield part.splitlines()[0], cloud, full(one[1]), said.get(f'the service over {database}', said['the service']), lacks, others, version
 
 
+def mistakes():
+    """The headings of docs/DIFFERENCES.md that are mistakes of the service."""
+    with open(PAGE, encoding='utf-8') as file:
+        part = re.search(r'^## Mistakes of the service\n(.*?)^## ', file.read(), re.M | re.S)
+    return re.findall('^### (.*)$', part[1], re.M)
+
+
 class Trial:
     """What is tried over one service, and how it went."""
 
     def __init__(self, url, program, name, client):
-        self.service, self.program, self.name, self.client = Service(url), program, name, client
+        token = 'admin' if client else os.environ.get('OS_TOKEN') or 'admin'
+        self.service, self.program, self.name, self.client = Service(url, token), program, name or 'service', client
         self.url, self.passed, self.failed = url, 0, 0
 
-    def say(self, well, what):
+    def say(self, well, what, otherwise=''):
+        """Counts and prints one check, and what else there is to say if it failed."""
         self.passed, self.failed = self.passed + well, self.failed + (not well)
         print(f'{"ok    " if well else "FAILED"} {self.name}: {what}', flush=True)
+        print('' if well else otherwise, end='')
 
     def run(self, words, **settings):
         """Runs a command without the caller's OS_* variables, which may name another cloud."""
@@ -373,11 +415,15 @@ class Trial:
         """Puts this cloud into the service, exports it, and asks both the same queries."""
         self.service.fill(cloud)
         with tempfile.TemporaryDirectory() as folder:
-            self.export(what, folder, rounds)
+            if self.client:
+                self.export(what, folder, rounds)
+            else:
+                write(folder, self.service.cloud())
             code, out, err = self.ask('check', folder)
             self.say(code == 0, f'{what}: the tables are accepted: {", ".join(out.splitlines())}{err}')
             self.compare(what, folder, asked(cloud))
-            self.lists(what, folder)
+            if self.client:
+                self.lists(what, folder)
 
     def odd(self, what, cloud):
         """Tries whether ratios that the program doesn't read are exported all the same, as they are and rounded."""
@@ -444,15 +490,63 @@ class Trial:
             self.say(still, f'{heading}: {short(query)}: ' + (
                 f'still so, {said}' if still else f'now {", ".join(f"`{one}`" for one in its) or "nothing"}, and not {said}'))
 
+    def gabbi(self):
+        """Tries the files of examples/gabbi, one for each mistake. On the service those tests must fail that are named after it, and no other. If the
+        program answers in the service's place, all must pass: so they ask for what the rules say."""
+        headings = mistakes()
+        asks = {gabbi_files.file_of(heading): [] for heading in headings}
+        for heading, _, query, *_ in differences(self.name):
+            if heading in headings:
+                asks[gabbi_files.file_of(heading)].append(query)
+        same = gabbi_files.every() == sorted(asks) and all(gabbi_files.queries(name) == queries for name, queries in asks.items())
+        self.say(same, f'examples/gabbi: a file for each of {len(asks)} mistakes, with its queries, {sum(map(len, asks.values()))} in all')
+        if not gabbi_files.can_run():
+            print(f'       {self.name}: there is no {gabbi_files.RUNNER}, so these files were not tried')
+            return
+        with gabbi_files.stand_in(self.service, self.by_program) as stand:
+            for name in gabbi_files.every():
+                # A file deletes what it creates, unless it is broken.
+                self.service.made.update(gabbi_files.providers(name))
+                self.service.clear()
+                tests, said = gabbi_files.run(name, self.url, self.service.token)
+                failed = [test for test, passed in tests.items() if not passed]
+                self.say(failed == gabbi_files.of_mistake(tests) != [],
+                         f'examples/gabbi/{name}: {len(failed)} of {len(tests)} tests fail: {", ".join(failed) or "none"}', said)
+                self.service.clear()
+                tests, said = gabbi_files.run(name, stand, self.service.token)
+                passed = sum(tests.values())
+                self.say(0 < passed == len(tests), f'examples/gabbi/{name}: {passed} of {len(tests)} tests pass if the program answers', said)
+
+    def by_program(self, query):
+        """The status and the body by which the program answers this query over the cloud that the service has."""
+        with tempfile.TemporaryDirectory() as folder:
+            write(folder, self.service.cloud())
+            code, out, err = self.ask('candidates', folder, query)
+            return (200, json.loads(out)) if code in (0, 1) else (400, err)
+
 
 def main(url, program, name, *client):
     trial = Trial(url, program, name, client)
-    trial.cloud('the example cloud', of_folder(os.path.join(ROOT, 'examples', 'cloud')))
-    trial.odd('odd ratios', odd_ratios())
-    trial.cloud('a drawn cloud', drawn())
-    trial.moving()
-    trial.differ()
-    trial.service.clear()
+    try:
+        status, first = trial.service.ask('GET', '/')
+        there = trial.service.providers()
+    except (Refused, OSError) as fault:
+        sys.exit(f'try-with-service: {url}: {fault}')
+    if there:
+        sys.exit(f'try-with-service: {url} has resource providers already, {len(there)} of them: it must have none')
+    if not client and status == 200:
+        print(f'{url} has the microversions', ', '.join(f'{one["min_version"]} to {one["max_version"]}' for one in first['versions']))
+    try:
+        trial.cloud('the example cloud', of_folder(os.path.join(ROOT, 'examples', 'cloud')))
+        if client:
+            trial.odd('odd ratios', odd_ratios())
+        trial.cloud('a drawn cloud', drawn())
+        if client:
+            trial.moving()
+        trial.differ()
+        trial.gabbi()
+    finally:
+        trial.service.clear()
     print(f'{trial.passed} passed, {trial.failed} failed')
     return 1 if trial.failed else 0
 

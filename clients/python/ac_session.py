@@ -17,7 +17,7 @@ import tempfile
 import threading
 from typing import Dict, Iterable, Iterator, List, NamedTuple, Optional, Sequence, Tuple
 
-__all__ = ['Answer', 'Count', 'Ended', 'Host', 'Placement', 'Refused', 'Session']
+__all__ = ['Answer', 'Count', 'Ended', 'Host', 'Left', 'Placement', 'Refused', 'Session']
 
 
 class Refused(Exception):
@@ -68,6 +68,16 @@ class Host(NamedTuple):
     lacks: str
     asks: str
     detail: str
+
+
+class Left(NamedTuple):
+    """An inventory: its capacity, how much of it is used, and how much is left."""
+    provider: str
+    name: str
+    resource_class: str
+    capacity: int
+    used: int
+    left: int
 
 
 class Count(NamedTuple):
@@ -206,8 +216,8 @@ class Session:
         ...     placed.providers, session.place('resources=VCPU:8'), session.release(placed)
         (['6a90b2f4-c71d-4e05-a5c8-20f3e8d71b03'], None, True)"""
         pairs = [pair for pair in query.split('&') if not pair.startswith('limit=')]
-        for token in self.tokens('&'.join([*pairs, 'limit=1'])):
-            return self.claim('&'.join(pairs), token)
+        for token in self.ask('fill', '&'.join([*pairs, 'limit=1'])).lines:
+            return Placement('&'.join(pairs), token)
         return None
 
     def release(self, placed: Placement) -> bool:
@@ -224,6 +234,15 @@ class Session:
         if answer.status:
             raise Refused(answer.status, answer.lines[0])
         return {(provider, name): int(used) for provider, name, used in csv.reader(answer.lines[1:])}
+
+    def left(self, host: str = '') -> List[Left]:
+        """What is left of each inventory, or of those of a host's tree; a host is a provider's UUID or name.
+
+        >>> with Session('examples/cloud') as session:
+        ...     [(each.resource_class, each.capacity, each.left) for each in session.left('storage-01')]
+        [('DISK_GB', 2850, 2550)]"""
+        _, *rows = csv.reader(self.ask('left', *filter(None, [host])).lines)
+        return [Left(provider, name, kind, *map(int, amounts)) for provider, name, kind, *amounts in rows]
 
     # ---- Lines
 

@@ -3,8 +3,8 @@ system ends it, and the case fails. Tables with millions of columns have twice t
 record."""
 from __future__ import annotations
 
-from cases import Case, lines, tables
-from large import MOST_BYTES, MOST_PROVIDERS, ONE, QUERY_BYTES, chain, ids, roots, shuffled, vcpu
+from cases import AUDIT_HEAD, Case, lines, tables
+from large import MOST_BYTES, MOST_PROVIDERS, ONE, QUERY_BYTES, chain, ids, roots, shuffled, star, vcpu
 from notation import HEADERS, provider
 
 LIMITED = 'ulimit -v $((2097152 * {0})); ulimit -t $((2 * {0})); exec "$@"'
@@ -133,6 +133,46 @@ TOKENS = [
 ]
 
 
+def told(*kinds):
+    """What `audit` writes of several kinds: each with its providers and what is said of each."""
+    return AUDIT_HEAD + ''.join(f'{kind},{id},{said}\n' for kind, names, said in kinds for id in names)
+
+
+def each(table, names, *says):
+    """A table with a row for each of these providers and each of these texts."""
+    return HEADERS[table] + ''.join(f'{id},{text}\n' for id in names for text in says)
+
+
+# What `audit` may take long for: the tables, a zone, and what it writes.
+EVERY = ids(MOST_PROVIDERS)
+HALF = MOST_PROVIDERS // 2
+SHARING = 'MISC_SHARES_VIA_AGGREGATE'
+A1, A2 = provider(0xa1), provider(0xa2)
+NO_DISK = ',"VCPU in its tree, and no DISK_GB there, its own or shared"'
+UNUSED = 'no usage', [''], f',{MOST_PROVIDERS} of {MOST_PROVIDERS} inventories have no row'
+AUDITS = [
+    (f'{CLASSES} classes of one provider, each used', OF_MANY_CLASSES, None, lambda: AUDIT_HEAD),
+    ('a chain of 65536', {'providers': lambda: chain(MOST_PROVIDERS), 'inventories': lambda: vcpu(MOST_PROVIDERS)}, None,
+     lambda: told(('no storage', [P1], NO_DISK), UNUSED)),
+    ('a name of 65536 providers', {
+        'providers': lambda: star(MOST_PROVIDERS).replace('\n', ',x\n').replace('uuid,x', 'uuid,name', 1), 'inventories': lambda: vcpu(MOST_PROVIDERS)}, None,
+     lambda: told(('no storage', [P1], 'x' + NO_DISK), ('name twice', EVERY, f'x,{MOST_PROVIDERS} providers have it'), UNUSED)),
+    ('a tree of 65536 that share with nobody', {
+        'providers': lambda: star(MOST_PROVIDERS), 'inventories': lambda: vcpu(MOST_PROVIDERS), 'traits': lambda: each('traits', EVERY, SHARING),
+        'aggregates': lambda: each('aggregates', EVERY, A1)}, None,
+     lambda: told(('shares with nobody', EVERY, ',in no aggregate of another tree'), ('no storage', [P1], NO_DISK), UNUSED)),
+    ('65536 that share with each other, half of them in the zone', {
+        'providers': lambda: roots(MOST_PROVIDERS), 'inventories': lambda: each('inventories', EVERY, 'DISK_GB,8,0,1,8,1,1.0'),
+        'traits': lambda: each('traits', EVERY, SHARING), 'aggregates': lambda: each('aggregates', EVERY[:HALF], A1) + each('aggregates', EVERY[HALF:], A1, A2)
+        .removeprefix(HEADERS['aggregates'])}, A2,
+     lambda: told(("outside its hosts' aggregates", EVERY[:HALF], f',"not in {A2}, where {HALF} of its hosts are"'), UNUSED)),
+    # Each disk but that of the zone is available at the root of that one, which is a member of the zone.
+    ('as many roots in lists as there may be', knot(MOST_DISKS), provider(0xa0000), lambda: told(
+        ('shares nothing', EVERY[SITE:SITE + MOST_DISKS], ',no inventory'), ('no inventory', EVERY[:SITE + 2 * MOST_DISKS], ',no provider of its tree has one'),
+        ("outside its hosts' aggregates", EVERY[SITE + 1:SITE + MOST_DISKS], f',"not in {provider(0xa0000)}, where 1 of its hosts are"'))),
+]
+
+
 def hostile(program):
     """The cases, each of which runs this program."""
     limited = ['sh', '-c', LIMITED.format(1), 'limited', program]
@@ -147,6 +187,8 @@ def hostile(program):
     counts = f'providers {SITE + 2 * MOST_DISKS}\ninventories 0\nusages 0\ntraits {MOST_DISKS}\naggregates {SITE + 3 * MOST_DISKS}\n'
     yield Case('hostile tables: as many roots in lists as there may be', [*limited, 'check'], counts, tables=knot(MOST_DISKS))
     yield Case('hostile tables: more roots in lists than there may be', [*limited, 'check'], '', 'out of memory\n', 7, knot(MOST_DISKS + 1))
+    for name, made, zone, says in AUDITS:
+        yield Case(f'hostile tables: audit of {name}', [*limited, 'audit', *(['--zone', zone] if zone else [])], says, status=0 if made is OF_MANY_CLASSES else 1, tables=made)
     for name, query, says in QUERIES:
         accepted = says in (None, 'P1')
         yield Case(f'hostile query: {name}', [*limited, 'tokens', query], lines('P1') if says == 'P1' else '',

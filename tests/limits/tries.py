@@ -10,7 +10,7 @@ STOPPED = 'search: TooManyTries\n'
 FIVE = 'resources=VCPU:5'
 BODY = ('{"allocation_requests":[{"allocations":{"P1":{"resources":{"VCPU":5}},"P2":{"resources":{"VCPU":5}}},'
         '"mappings":{"1":["P1"],"2":["P2"]}}')
-HEADER = '#,allocation,resource provider,name,inventory used/capacity,traits\n'
+HEADER = '#,allocation,resource provider,inventory used/capacity,traits,name\n'
 
 # Five groups for any function of a host, which take those of the second network first, and then as many for that one as it has functions.
 ANY_THEN_ONE = groups(10, 14, 'resources{0}=SRIOV_NET_VF:1') + '&' + groups(20, 22, OTHER_NETWORK) + '&group_policy=isolate'

@@ -24,7 +24,7 @@ _ac_cli() {
         ;;
     esac
     if [[ $COMP_CWORD == 1 ]]; then
-        offered='check candidates tokens list fill verify explain hosts why capacity session help --help --version'
+        offered='check candidates tokens list fill verify explain hosts why capacity audit session help --help --version'
     else
         case ${COMP_WORDS[1]} in
         check) offered='--tables --providers --inventories --usages --traits --aggregates --detail --help' ;;
@@ -36,9 +36,10 @@ _ac_cli() {
         explain) offered='--tables --providers --inventories --usages --traits --aggregates --detail --microversion --tries --help' ;;
         hosts) offered='--tables --providers --inventories --usages --traits --aggregates --detail --microversion --tries --in --sum --help' ;;
         why) offered='--tables --providers --inventories --usages --traits --aggregates --detail --microversion --tries --help' ;;
-        capacity) offered='--tables --providers --inventories --usages --traits --aggregates --detail --microversion --tries --help' ;;
+        capacity) offered='--tables --providers --inventories --usages --traits --aggregates --detail --microversion --tries --prometheus --help' ;;
+        audit) offered='--tables --providers --inventories --usages --traits --aggregates --detail --zone --help' ;;
         session) offered='--tables --providers --inventories --usages --traits --aggregates --detail --microversion --tries --help' ;;
-        help) offered='check candidates tokens list fill verify explain hosts why capacity session help' ;;
+        help) offered='check candidates tokens list fill verify explain hosts why capacity audit session help' ;;
         esac
     fi
     mapfile -t COMPREPLY < <(compgen -W "$offered" -- "$word")

@@ -12,3 +12,4 @@ pub mod CountLaws
 pub mod NobodyLaws
 pub mod UnheldLemmas
 pub mod ApartLemmas
+pub mod AuditFacts

@@ -1,12 +1,15 @@
 -- What the laws say of the counts of an explanation, and of the roots that fit.
-use Rattle.std.specs.Prelude.{◌≡◌, ◌<◌, ◌≤◌, ◌&&◌, ◌||◌, ℕ, Bool, true, false, not, List, [], length}
+use Rattle.std.specs.Prelude.{◌≡◌, ◌<◌, ◌≤◌, ◌&&◌, ◌||◌, ℕ, Bool, true, false, not, List, [], length, Some}
 use Rattle.std.specs.List.{AllByRecursion, list_all, list_any, range_with_len}
 use Rattle.std.specs.Option.{is_none, option_map_or}
+use Rattle.ac_base.specs.Quantities.{InventoryNumbers}
 use Rattle.ac_query.specs.Asked.{Asked, Group, Slot, slots_of}
 use Rattle.ac_cloud.specs.World.{Provider}
+use Rattle.ac_rules.specs.Own.{admits}
 use Rattle.ac_rules.specs.Pages.{candidates}
 use Rattle.ac_rules.specs.Placed.{slot_at}
-use Rattle.ac_rules.specs.Together.{is_empty}
+use Rattle.ac_rules.specs.Together.{has_room, is_empty}
+use Rattle.ac_find.specs.Audit.{admits_some}
 use Rattle.ac_find.specs.Explained.{SlotCounts, TreeCounts, class_rooms, slot_counts, tree_counts}
 use Rattle.ac_prune.specs.Fitting.{fits_at}
 use Rattle.ac_find.specs.Lacking.{lack_at}
@@ -84,3 +87,7 @@ SomeFits = (all : List Provider) (asked : Asked) → list_any (fits_at all asked
 -- a root fits exactly where it lacks nothing
 abbrev pub LackNothing : Type 0
 LackNothing = (all : List Provider) (asked : Asked) (r : ℕ) → is_none (lack_at all asked r) ≡ fits_at all asked r
+
+-- an inventory that admits an amount and has room for it isn't told as one that never fits
+abbrev pub PlacedFits : Type 0
+PlacedFits = (i : InventoryNumbers) (used amount : ℕ) → 1 ≤ amount → admits (Some i) amount ≡ true → has_room (Some i) used amount ≡ true → admits_some i ≡ true

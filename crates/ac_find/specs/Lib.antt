@@ -1,3 +1,4 @@
+pub mod Audit
 pub mod Apart
 pub mod Broken
 pub mod Details

@@ -1,5 +1,6 @@
 -- What counts and lacks show.
 pub mod Apart
+pub mod Audit
 pub mod Explained
 pub mod Lacking
 pub mod Furthest

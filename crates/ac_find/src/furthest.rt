@@ -1,9 +1,8 @@
 //! What is wanting at each root in the slot that it lacks a provider for: who comes furthest there, and a class that nobody has.
 
-ghost use Rattle.std.specs.Prelude.{◌≡◌, ◌<◌, ◌+◌, ℕ, IfOk, Some, None, false, get_or, length, map, not, replicate, if◌then◌else◌, slice_index_or};
+ghost use Rattle.std.specs.Prelude.{◌≡◌, ◌<◌, ◌+◌, IfOk, Some, None, false, length, map, replicate, if◌then◌else◌};
 ghost use Rattle.std.specs.List.{list_any, range_with_len};
-ghost use Rattle.std.specs.Option.{option_or};
-ghost use Rattle.ac_cloud.specs.World.{provider_at};
+ghost use Rattle.ac_base.specs.Names.{class_bytes};
 ghost use Rattle.ac_cloud.specs.Cloud.CloudWorld.{providers_of};
 ghost use Rattle.ac_query.specs.Asked.{slots_of};
 ghost use Rattle.ac_query.specs.Shown.Groups.{need_entry};
@@ -15,10 +14,9 @@ ghost use Rattle.ac_find.specs.Lacking.{lacks_of};
 ghost use Rattle.ac_find.specs.Missing.{somebody_there_has_class};
 ghost use Rattle.ac_find.specs.Shown.Furthest.{AreClasses, AreFound, AreWanting, having, is_of_slot, place_in};
 
-use crate::inventories::has_inventory;
 use crate::lacks::Lack;
 use crate::lacks::ranks::{place_in, rank_roots};
-use ac_base::NoMemory;
+use ac_base::{ClassName, NoMemory};
 use ac_cloud::Cloud;
 use ac_prune::limit;
 use ac_query::{Need, Query};
@@ -60,21 +58,26 @@ fn furthest_of_slot(
 }
 
 // 1 for each provider that has an inventory of a class, and else 0.
-fn having(alloc: Global, cloud: &Cloud, need: &Need) -> Result<Vec<u64>, NoMemory>
+#[tactic(auto, unfolding(crate::specs::Explained::has_inventory))]
+fn having(alloc: Global, cloud: &Cloud, class: &ClassName) -> Result<Vec<u64>, NoMemory>
     ensures { IfOk result (λ rooms.
-        rooms.items ≡ having (providers_of cloud.now) (need_entry need.now).0) }
+        rooms.items ≡ having (providers_of cloud.now) (class_bytes class.now)) }
 {
-    let rooms = (0..cloud.len()).map(|ix| u64::from(has_inventory(&cloud.provider(ix), need)));
+    let rooms = (0..cloud.len()).map(|ix| u64::from(cloud.inventory(ix, class).is_some()));
     Ok(rooms.collect(alloc)?)
 }
 
-// At which roots somebody has an inventory of a class.
-fn roots_with(alloc: Global, cloud: &Cloud, need: &Need) -> Result<Vec<bool>, NoMemory>
+/// At which roots somebody has an inventory of a class.
+pub(crate) fn roots_with(
+    alloc: Global,
+    cloud: &Cloud,
+    class: &ClassName,
+) -> Result<Vec<bool>, NoMemory>
     ensures { IfOk result (λ marks. marks.items
-        ≡ map (λ r. somebody_there_has_class (providers_of cloud.now) r (need_entry need.now).0)
+        ≡ map (λ r. somebody_there_has_class (providers_of cloud.now) r (class_bytes class.now))
         (range_with_len 0 (length (providers_of cloud.now)))) }
 {
-    let rooms = having(alloc, cloud, need)?;
+    let rooms = having(alloc, cloud, class)?;
     let mut marks = vec![in alloc; true; cloud.len() as usize]?;
     limit(alloc, cloud, &mut marks, &rooms, 1)?;
     Ok(marks)
@@ -117,7 +120,7 @@ fn classes_of_nobody(
 {
     let mut classes = no_classes(alloc, cloud)?;
     for (class, need) in needs.iter().enumerate() {
-        let had = roots_with(alloc, cloud, need)?;
+        let had = roots_with(alloc, cloud, need.class())?;
         note_class(&mut classes, class, &had);
     }
     Ok(classes)

@@ -1,6 +1,6 @@
 //! What holds of the counts of an explanation, and of the roots that fit: a function's contract is a law, and no program calls it.
 
-ghost use Rattle.ac_find.specs.Laws.{CountsFall, LackNothing, NoRootHas, NobodyHas, NobodyIsThere, NoneWithoutRoots, NoneWithoutTraits, RootTraitsZero, RootsFall, SlotZero, SomeFits};
+ghost use Rattle.ac_find.specs.Laws.{CountsFall, LackNothing, NoRootHas, NobodyHas, NobodyIsThere, NoneWithoutRoots, NoneWithoutTraits, PlacedFits, RootTraitsZero, RootsFall, SlotZero, SomeFits};
 
 /// In a slot's line no number is greater than the one before it.
 pub fn counts_fall()
@@ -60,4 +60,10 @@ pub fn some_fits()
 /// A root fits exactly where it lacks nothing.
 pub fn lack_nothing()
     ensures { LackNothing }
+{}
+
+/// An inventory of which some amount can be placed isn't told as one that never fits.
+#[tactic(auto, using(crate::proofs::AuditFacts::placed_fits))]
+pub fn placed_fits()
+    ensures { PlacedFits }
 {}

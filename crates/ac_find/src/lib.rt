@@ -4,6 +4,7 @@
 //! It searches nothing, and knows nothing of what is printed.
 #![tactic(auto)]
 
+mod audit;
 pub mod broken;
 mod counts;
 pub mod details;
@@ -14,6 +15,7 @@ pub mod laws;
 pub mod missing;
 mod unheld;
 
+pub use audit::{Finding, Kind, find_amiss, is_member};
 pub use broken::broken_detail;
 pub use counts::{
     SlotCounts, SlotTold, TreeCounts, all_slots, first_apart, requires_some, slot_counts,

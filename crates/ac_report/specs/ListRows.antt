@@ -20,7 +20,7 @@ use Rattle.ac_report.specs.Trees.{gives, needs_on, provider_text}
 
 abbrev pub list_columns : List (List ℕ)
 list_columns =
-    codes "#" ∷ codes "allocation" ∷ codes "resource provider" ∷ codes "name" ∷ codes "inventory used/capacity" ∷ codes "traits" ∷ []
+    codes "#" ∷ codes "allocation" ∷ codes "resource provider" ∷ codes "inventory used/capacity" ∷ codes "traits" ∷ codes "name" ∷ []
 
 -- texts, joined by commas
 abbrev pub joined_by_commas : List (List ℕ) → List ℕ
@@ -50,8 +50,8 @@ traits_cell names = joined_by_commas names
 -- the row of a provider of the list of this number
 abbrev pub provider_row : List Provider → List Placed → ℕ → ℕ → List (List ℕ)
 provider_row all xs number ix =
-    decimal number ∷ allocation_cell xs ix ∷ provider_text all ix ∷ shown_name (provider_at all ix).name ∷ inventory_cell (provider_at all ix).entries
-    ∷ traits_cell (provider_at all ix).traits ∷ []
+    decimal number ∷ allocation_cell xs ix ∷ provider_text all ix ∷ inventory_cell (provider_at all ix).entries ∷ traits_cell (provider_at all ix).traits
+    ∷ shown_name (provider_at all ix).name ∷ []
 
 -- the rows of a list: one for each provider of which something is taken, in the order of their UUIDs
 abbrev pub rows_of_list : List Provider → Asked → ℕ → List ℕ → List (List (List ℕ))

@@ -1,6 +1,7 @@
 //! The texts of what is found of a cloud and a query: explanations, and rows of hosts.
 
 mod asks;
+mod audit_rows;
 mod explanation;
 mod host_details;
 mod host_rows;
@@ -11,6 +12,7 @@ mod slot_details;
 mod why_rows;
 mod within;
 
+pub use audit_rows::audit_text;
 pub use explanation::{
     FoundWithout, Told, differences_text, explanation_status, find_apart, find_without,
     has_candidate,

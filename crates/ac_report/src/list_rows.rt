@@ -74,9 +74,9 @@ fn write_provider(
             number.as_bytes(),
             allocation.as_bytes(),
             &cloud.id(provider).text(),
-            &name,
             inventory.as_bytes(),
             traits.as_bytes(),
+            &name,
         ],
     )
 }
@@ -164,7 +164,7 @@ pub fn write_list<S: Source, W: Sink>(
 {
     push_piece(
         out,
-        b"#,allocation,resource provider,name,inventory used/capacity,traits\n",
+        b"#,allocation,resource provider,inventory used/capacity,traits,name\n",
     )?;
     write_blocks(alloc, cloud, query, traits, source, out)
 }

@@ -14,7 +14,7 @@ use Rattle.ac_run.specs.Wanted.Given.{tables_in}
 use Rattle.ac_run.specs.Lines.{memory_line}
 use Rattle.ac_run.specs.Refusals.{IsRefusalWith, line_of, line_of_asked, line_of_tables, line_told, status_of, status_of_asked, status_of_tables, status_told}
 use Rattle.ac_run.specs.Run.{Explains, ExplainsTables, IsStated, IsWritten}
-use Rattle.ac_run.specs.Tasks.{Command, Paths, Task, check, candidates, tokens, list, fill, verify, explain, hosts, why, capacity, token_in}
+use Rattle.ac_run.specs.Tasks.{Command, Paths, Task, check, candidates, tokens, list, fill, verify, explain, hosts, why, capacity, audit, token_in}
 use Rattle.ac_run.specs.Wanted.{AsksOne, ExplainsWanted}
 use Rattle.ac_run.specs.declared.refusal.AskRefusal.{AskRefusal}
 use Rattle.ac_run.specs.declared.refusal.AskRefusal.TheVariants as ask
@@ -140,11 +140,12 @@ module _ (text : List ℕ) (o said : Outcome) (old new : Option (List ℕ)) wher
 
 -- ---- what a task asks of a world
 
--- but for `check` and `capacity` a command asks for a query
+-- but for `check`, `capacity` and `audit` a command asks for a query
 pub asks_query : (command : Command) (detail : Bool) (version : Version) (query : List ℕ) (world : World) → AsksOne command
     → answer_by command detail version query world ≡ past_query (said_by command detail world) (token_in command) version query
 asks_query check detail version query world other = absurd other
-asks_query (capacity flavors) detail version query world other = absurd other
+asks_query (capacity flavors metrics) detail version query world other = absurd other
+asks_query (audit zone) detail version query world other = absurd other
 asks_query (candidates after traits) detail version query world other = refl
 asks_query (tokens after) detail version query world other = refl
 asks_query (list after traits) detail version query world other = refl
@@ -157,7 +158,8 @@ asks_query (why host) detail version query world other = refl
 -- and what is to be done says so
 asks_text_of : (command : Command) (all : List Provider) (task : Task) → AsksOne command → text_asked command all task ≡ asks_text all task
 asks_text_of check all task one = absurd one
-asks_text_of (capacity flavors) all task one = absurd one
+asks_text_of (capacity flavors metrics) all task one = absurd one
+asks_text_of (audit zone) all task one = absurd one
 asks_text_of (candidates after traits) all task one = refl
 asks_text_of (tokens after) all task one = refl
 asks_text_of (list after traits) all task one = refl
@@ -189,7 +191,7 @@ module _ (task : Task) (world : World) where
       refused_in (line_of_asked (ask.Host f)) (asked_remedy task (ask.Host f)) 5 (omega arith)
       (asks_query task.command _ task.version task.query world h.0 ∙ rw (h.1, h.2.1, h.2.2) refl) (asks_text_of task.command world.providers task h.0 ∙ rw (h.1, h.2.1, h.2.2) refl)
   asked_said (ask.Flavors f) h some =
-      refused_in (line_of_asked (ask.Flavors f)) (asked_remedy task (ask.Flavors f)) 4 (omega arith) (rw (h.1, h.2) refl) (rw (h.1, h.2) refl)
+      refused_in (line_of_asked (ask.Flavors f)) (asked_remedy task (ask.Flavors f)) 4 (omega arith) (rw (h.2, h.3) refl) (rw (h.2, h.3) refl)
 
   module _ {R : Type 0} (remaining : R → Option (List ℕ)) (failures : R → ℕ) (from to : FiveTables R) (stated : (b : Bytes) → TellBytes remaining from b → IsStated b world) where
     abbrev IsWhyAsked : List ℕ → ℕ → Type 0

@@ -15,7 +15,7 @@ use Rattle.ac_run.specs.Flavors.{Why, plan_shown, query_refused, why_query, why_
 use Rattle.ac_run.specs.Lines.{query_line}
 use Rattle.ac_run.specs.Stops.{OneMayStop}
 use Rattle.ac_run.specs.Wanted.{ExplainsFlavors, ExplainsQuery}
-use Rattle.ac_run.specs.declared.flavors.Plan as rust
+use Rattle.ac_run.specs.declared.capacity.flavors.Plan as rust
 use Rattle.ac_run.specs.declared.refusal.AskRefusal.{AskRefusal}
 use Rattle.ac_run.specs.declared.refusal.AskRefusal.TheVariants as ask
 use Rattle.ac_run.specs.declared.refusal.FlavorsRefusal.TheVariants as flavors

@@ -1,6 +1,7 @@
 -- What a run answers: its output, its line on the error sink, and its status.
-use Rattle.std.specs.Prelude.{ℕ, Bool, true, false, List, [], ◌++◌, codes, is_some, nat_lt, Option, Some, None, Result, Ok, Err, if◌then◌else◌}
+use Rattle.std.specs.Prelude.{ℕ, Bool, true, false, List, [], ◌++◌, codes, is_some, map, nat_lt, Option, Some, None, Result, Ok, Err, if◌then◌else◌}
 use Rattle.std.specs.Option.{option_and_then}
+use Rattle.ac_base.specs.Texts.{id_value}
 use Rattle.ac_tables.specs.Tables.{Tables, tables_fault, world_stated}
 use Rattle.ac_cloud.specs.World.{World, Provider}
 use Rattle.ac_cloud.specs.Cloud.Hosts.{host_of}
@@ -23,12 +24,14 @@ use Rattle.ac_report.specs.Texts.{body, lines, shown_providers}
 use Rattle.ac_fill.specs.Bounds.{most_placed, shorts}
 use Rattle.ac_fill.specs.Filled.{filled}
 use Rattle.ac_run.specs.Outputs.{counted, counts, detailed_text, fill_status, sum_text, verdict_status, verdict_text}
+use Rattle.ac_find.specs.Audit.{findings}
+use Rattle.ac_report.specs.Findings.AuditRows.{audit_status, audit_text}
 use Rattle.ac_report.specs.Findings.Explanation.{explanation_status, explanation_text}
 use Rattle.ac_report.specs.Findings.Explanation.Candidates.{has_candidate}
 use Rattle.ac_report.specs.Findings.HostRows.{hosts_status, hosts_text}
 use Rattle.ac_report.specs.Findings.HostSums.{sums_text}
 use Rattle.ac_report.specs.Findings.WhyRows.{root_place, why_status, why_text}
-use Rattle.ac_run.specs.Capacity.{capacity_status, capacity_text}
+use Rattle.ac_run.specs.Capacity.{capacity_status, room_of, rooms_text}
 use Rattle.ac_run.specs.Feeds.{Bytes, too_large}
 use Rattle.ac_run.specs.Flavors.{Plan, flavors_refused, plans_of}
 use Rattle.ac_run.specs.Lines.{too_large_line, record_line, query_line, token_line, host_line, memory_line}
@@ -128,13 +131,22 @@ on_host (Err f) say = refused (host_line f) 5
 abbrev pub why_rows : List Provider → List ℕ → Says
 why_rows all host asked ids = on_host (host_of all host) (λ host. why_not all asked host)
 
--- how many of each flavor a cloud can hold
-abbrev pub capacities : List Provider → List Plan → Outcome
-capacities all plans = written (capacity_text all plans) (capacity_status all plans)
+-- how many of each flavor a cloud can hold: as rows, or as metrics
+abbrev pub capacities : Bool → List Provider → List Plan → Outcome
+capacities metrics all plans = written (rooms_text metrics (map (room_of all) plans)) (capacity_status (map (room_of all) plans))
 
 -- what is said of a table of flavors, as a version reads their queries, unless it is refused
-abbrev pub capacity_said : Version → List ℕ → List Provider → Outcome
-capacity_said version flavors all = told (flavors_refused version flavors) (λ why. refused why.line 4) (capacities all (plans_of version flavors))
+abbrev pub capacity_said : Version → List ℕ → Bool → List Provider → Outcome
+capacity_said version flavors metrics all =
+    told (flavors_refused version flavors) (λ why. refused why.line 4) (capacities metrics all (plans_of version flavors))
+
+-- what is amiss in a cloud, with an aggregate as the zone of hosts, or with none
+abbrev pub amiss : World → Option ℕ → Outcome
+amiss world zone = written (audit_text (findings world zone)) (audit_status (findings world zone))
+
+-- the aggregate that a text names by its UUID; another text names none
+abbrev pub zone_named : Option (List ℕ) → Option ℕ
+zone_named zone = option_and_then id_value zone
 
 -- what is said, unless the token is refused
 abbrev pub past_token : Says → Option (List ℕ) → Asked → Outcome
@@ -156,12 +168,14 @@ said_by (command.verify token) detail world = verdict_line world.providers detai
 said_by command.explain detail world = explanation world.providers
 said_by (command.hosts sum within) detail world = host_rows world.providers sum within
 said_by (command.why host) detail world = why_rows world.providers host
-said_by (command.capacity flavors) detail world = λ asked ids. capacities world.providers []
+said_by (command.capacity flavors metrics) detail world = λ asked ids. capacities metrics world.providers []
+said_by (command.audit zone) detail world = λ asked ids. amiss world (zone_named zone)
 
--- the answer of a command; `check` asks for no query, and `capacity` for those of its flavors
+-- the answer of a command; `check` and `audit` ask for no query, and `capacity` for those of its flavors
 abbrev pub answer_by : Command → Bool → Version → List ℕ → World → Outcome
 answer_by command.check detail version query world = written (counts world.sizes) 0
-answer_by (command.capacity flavors) detail version query world = capacity_said version flavors world.providers
+answer_by (command.capacity flavors metrics) detail version query world = capacity_said version flavors metrics world.providers
+answer_by (command.audit zone) detail version query world = amiss world (zone_named zone)
 answer_by asks detail version query world = past_query (said_by asks detail world) (token_in asks) version query
 
 -- the answer to a task in a world

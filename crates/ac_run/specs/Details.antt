@@ -80,7 +80,7 @@ asks_text all task =
 
 -- of what a command asks
 abbrev pub text_asked : Command → List Provider → Task → List ℕ
-text_asked (capacity flavors) all task = flavors_text task.version flavors
+text_asked (capacity flavors _) all task = flavors_text task.version flavors
 text_asked _ all task = asks_text all task
 
 abbrev pub asked_text : List Provider → Task → List ℕ

@@ -10,7 +10,7 @@ use Rattle.ac_query.specs.Shown.Faults.{fault_shown}
 use Rattle.ac_query.specs.Shown.Queries.{asked_of}
 use Rattle.ac_query.specs.declared.version.Version.{Version}
 use Rattle.ac_run.specs.Lines.{line_at, memory_line, query_line}
-use Rattle.ac_run.specs.declared.flavors.Plan as rust
+use Rattle.ac_run.specs.declared.capacity.flavors.Plan as rust
 use Rattle.ac_run.specs.declared.refusal.FlavorsRefusal.{FlavorsRefusal}
 use Rattle.ac_run.specs.declared.refusal.FlavorsRefusal.TheVariants as flavors
 use Rattle.ac_tables.specs.Drain.{most_bytes}

@@ -4,6 +4,7 @@ pub mod Feeds
 pub mod Flavors
 pub mod Tasks
 pub mod Capacity
+pub mod Rooms
 pub mod Details
 pub mod Wanted
 pub mod Outputs

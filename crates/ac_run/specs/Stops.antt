@@ -35,7 +35,8 @@ SearchMayStop (command.verify token) version tries all asked = ⊥
 SearchMayStop command.explain version tries all asked = ExplanationMayStop tries all asked
 SearchMayStop (command.hosts sum within) version tries all asked = MayStop tries all asked None
 SearchMayStop (command.why host) version tries all asked = MayStop tries all asked None
-SearchMayStop (command.capacity flavors) version tries all asked = OneMayStop tries all (plans_of version flavors)
+SearchMayStop (command.capacity flavors metrics) version tries all asked = OneMayStop tries all (plans_of version flavors)
+SearchMayStop (command.audit _) version tries all asked = ⊥
 
 -- a search of a task may stop, over the bytes of five tables
 abbrev pub TaskMayStop : Task → Bytes → Type 0
@@ -52,4 +53,5 @@ AnswerMayStop (wanted.Verdict query token detail) tries all = ⊥
 AnswerMayStop (wanted.Explanation question) tries all = ExplanationMayStop tries all (asked_of question.query)
 AnswerMayStop (wanted.Hosts query sum within) tries all = MayStop tries all (asked_of query) None
 AnswerMayStop (wanted.Why query host) tries all = MayStop tries all (asked_of query) None
-AnswerMayStop (wanted.Capacity plans) tries all = OneMayStop tries all (map plan_shown plans.items)
+AnswerMayStop (wanted.Capacity plans metrics) tries all = OneMayStop tries all (map plan_shown plans.items)
+AnswerMayStop (wanted.Amiss _) tries all = ⊥

@@ -9,7 +9,7 @@ use Rattle.ac_run.specs.declared.job.Job.{Job}
 use Rattle.ac_tables.specs.declared.read.FiveTables.{FiveTables}
 
 -- what is to be done: with the token to begin after, or to judge; with traits, or not; with the number of placements in place of their tokens, or not;
--- with the host that is asked about; with the text of a table of flavors
+-- with the host that is asked about; with the text of a table of flavors, as rows or as metrics; with an aggregate as the zone of hosts
 pub data Command : Type 0 where
   check : Command
   candidates : Option (List ℕ) → Bool → Command
@@ -20,7 +20,8 @@ pub data Command : Type 0 where
   explain : Command
   hosts : Bool → Option ℕ → Command
   why : List ℕ → Command
-  capacity : List ℕ → Command
+  capacity : List ℕ → Bool → Command
+  audit : Option (List ℕ) → Command
 
 -- the paths of the tables' files, as they were given
 abbrev pub Paths : Type 0
@@ -54,7 +55,8 @@ command_shown (variant.Verify token) = verify token.now
 command_shown variant.Explain = explain
 command_shown (variant.Hosts sum within) = hosts sum within
 command_shown (variant.Why host) = why host.now
-command_shown (variant.Capacity flavors) = capacity flavors.now
+command_shown (variant.Capacity flavors metrics) = capacity flavors.now metrics
+command_shown (variant.Audit zone) = audit (option_map (λ t. t.now) zone)
 
 abbrev pub paths_shown : FiveTables (Bor (List ℕ)) → Paths
 paths_shown p = record {

@@ -1,5 +1,6 @@
 -- What is wanted of a cloud, and why what is asked is refused.
 pub mod Given
+pub mod Mark
 use Rattle.std.specs.Prelude.{◌≡◌, ◌<◌, ℕ, Bool, true, is_some, List, length, map, Option, Some, None, Result, Err, ⊤}
 use Rattle.std.specs.List.{All}
 use Rattle.std.specs.Option.{option_map}
@@ -15,11 +16,11 @@ use Rattle.ac_query.specs.Shown.Faults.{fault_shown}
 use Rattle.ac_query.specs.Shown.Queries.{asked_of}
 use Rattle.ac_query.specs.Tokens.{ids_of}
 use Rattle.ac_query.specs.declared.token.TokenFault.{TokenFault}
-use Rattle.ac_run.specs.Answer.{Outcome, capacities, explanation, fills, host_rows, page_body, page_lines, page_rows, verdict_line, why_not, written}
+use Rattle.ac_run.specs.Answer.{Outcome, amiss, capacities, explanation, fills, host_rows, page_body, page_lines, page_rows, verdict_line, why_not, written}
 use Rattle.ac_run.specs.Wanted.Given.{token_refusal}
 use Rattle.ac_run.specs.Outputs.{counts}
 use Rattle.ac_run.specs.Flavors.{Why, flavors_refused, plan_shown, why_shown}
-use Rattle.ac_run.specs.Tasks.{Command, Task, capacity, check, token_in, why}
+use Rattle.ac_run.specs.Tasks.{Command, Task, audit, capacity, check, token_in, why}
 use Rattle.ac_run.specs.declared.refusal.AskRefusal.{AskRefusal}
 use Rattle.ac_run.specs.declared.refusal.AskRefusal.TheVariants as ask
 use Rattle.ac_run.specs.declared.wanted.Wanted.{Wanted}
@@ -36,7 +37,8 @@ answer_to (wanted.Verdict query token detail) world = verdict_line world.provide
 answer_to (wanted.Explanation question) world = explanation world.providers (asked_of question.query) None
 answer_to (wanted.Hosts query sum within) world = host_rows world.providers sum within (asked_of query) None
 answer_to (wanted.Why query host) world = why_not world.providers (asked_of query) host
-answer_to (wanted.Capacity plans) world = capacities world.providers (map plan_shown plans.items)
+answer_to (wanted.Capacity plans metrics) world = capacities metrics world.providers (map plan_shown plans.items)
+answer_to (wanted.Amiss zone) world = amiss world zone
 
 -- The token on which a verdict is wanted has an id for each slot of the query; a query that is placed again and again asks for an amount of a class; and
 -- the provider that is asked about is there. So does that of each flavor.
@@ -44,7 +46,7 @@ abbrev pub IsSound : List Provider → Wanted → Type 0
 IsSound all (wanted.Verdict query token detail) = length (ids_of token) ≡ length (slots_of (asked_of query))
 IsSound all (wanted.Fill query sum) = asks_units (asked_of query) ≡ true
 IsSound all (wanted.Why query host) = host < length all
-IsSound all (wanted.Capacity plans) = All (λ plan. asks_units (asked_of plan.query) ≡ true) plans.items
+IsSound all (wanted.Capacity plans metrics) = All (λ plan. asks_units (asked_of plan.query) ≡ true) plans.items
 IsSound all _ = ⊤
 
 -- whether more is told
@@ -84,16 +86,17 @@ ExplainsRest all command asked (ask.Token f) = token_refusal asked (token_in com
 ExplainsRest all command asked (ask.Host f) = (host : List ℕ) × (command ≡ why host) × (host_of all host ≡ Err f)
 ExplainsRest all command asked ask.NoMemory = ⊤
 
--- it asks for one query: `check` asks for none, and `capacity` for those of its flavors
+-- it asks for one query: `check` and `audit` ask for none, and `capacity` for those of its flavors
 abbrev pub AsksOne : Command → Type 0
 AsksOne check = ⊥
-AsksOne (capacity flavors) = ⊥
+AsksOne (capacity flavors metrics) = ⊥
+AsksOne (audit _) = ⊥
 AsksOne _ = ⊤
 
 -- What is wrong with the query of a task, and else with its token or its host, or with its flavors; or want of memory. One that asks for no query is not refused.
 abbrev pub ExplainsWanted : Task → World → AskRefusal → Type 0
 ExplainsWanted task world ask.NoMemory = ⊤
 ExplainsWanted task world (ask.Query f) = AsksOne task.command × ExplainsQuery (query_fault task.version task.query) (ask.Query f)
-ExplainsWanted task world (ask.Flavors f) = (flavors : List ℕ) × (task.command ≡ capacity flavors) × (flavors_refused task.version flavors ≡ Some (why_shown f))
+ExplainsWanted task world (ask.Flavors f) = (flavors : List ℕ) × (metrics : Bool) × (task.command ≡ capacity flavors metrics) × (flavors_refused task.version flavors ≡ Some (why_shown f))
 ExplainsWanted task world refusal =
     AsksOne task.command × (query_fault task.version task.query ≡ None) × ExplainsRest world.providers task.command (asked_by task.version (pairs_of task.query)) refusal

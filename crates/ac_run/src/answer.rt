@@ -9,7 +9,7 @@ ghost use Rattle.ac_query.specs.Shown.Queries.{asked_of};
 ghost use Rattle.ac_query.specs.Tokens.{ids_of};
 ghost use Rattle.ac_prune.specs.Fitting.{fitting};
 ghost use Rattle.ac_find.specs.Lacking.{lacks_of};
-ghost use Rattle.ac_run.specs.Answer.{explanation, host_rows, hosts_told, page_body, page_lines, page_rows, verdict_line, verdict_on, why_not, written};
+ghost use Rattle.ac_run.specs.Answer.{amiss, explanation, host_rows, hosts_told, page_body, page_lines, page_rows, verdict_line, verdict_on, why_not, written};
 ghost use Rattle.ac_run.specs.Wanted.{IsSound, answer_to};
 ghost use Rattle.ac_run.specs.Outputs.{counts, detailed_text, verdict_status, verdict_text};
 ghost use Rattle.ac_rules.specs.declared.verdict.Verdict.TheVariants as Verdict;
@@ -20,16 +20,16 @@ ghost use Rattle.ac_run.specs.Stops.{AnswerMayStop};
 ghost use Rattle.ac_report.specs.Findings.Explanation.Candidates.{ExplanationMayStop};
 ghost use Rattle.ac_search.specs.Shown.Walk.{MayStop};
 
+use crate::capacity::placements::write_fill;
 use crate::capacity::write_capacity;
 use crate::outputs::{detailed_line, push_counts, push_text, push_verdict, verdict_status};
-use crate::placements::write_fill;
 use crate::wanted::Wanted;
-use ac_base::{NoMemory, Sink};
-use ac_find::{Lack, all_slots, broken_detail, find_lacks, tree_counts};
+use ac_base::{Id, NoMemory, Sink};
+use ac_find::{Lack, all_slots, broken_detail, find_amiss, find_lacks, tree_counts};
 use ac_query::{Query, Token};
 use ac_report::findings::{
-    Question, Told, differences_text, explanation_status, find_apart, find_without, has_candidate,
-    hosts_status, hosts_text, root_place, sums_text, why_at,
+    Question, Told, audit_text, differences_text, explanation_status, find_apart, find_without,
+    has_candidate, hosts_status, hosts_text, root_place, sums_text, why_at,
 };
 use ac_report::{PageFault, write_list, write_shown_page, write_tokens};
 use ac_rules::{Assignment, InCloud, Rule, Verdict, verify};
@@ -322,6 +322,22 @@ fn write_why<W: Sink>(
     push_text(out, &text, status)
 }
 
+// What is amiss in the cloud.
+#[tactic(auto, using(crate::proofs::Delivering::refused))]
+fn write_audit<W: Sink>(
+    alloc: Global,
+    cloud: &Cloud,
+    zone: Option<Id>,
+    out: &mut W,
+) -> Result<u8, PageFault>
+    ensures { Delivers (amiss (world_of cloud.now) zone) ⊥ result (W.taken out.old)
+        (W.taken out.new) (W.failures out.old) (W.failures out.new) }
+{
+    let found = find_amiss(alloc, cloud, zone)?;
+    let text = audit_text(alloc, &found)?;
+    push_text(out, &text, if found.is_empty() { 0 } else { 1 })
+}
+
 /// Writes what is wanted of a cloud, and gives its status. Each search may make so many tries; without a number, as many as it takes.
 pub fn write_answer<W: Sink>(
     alloc: Global,
@@ -354,6 +370,9 @@ pub fn write_answer<W: Sink>(
             write_hosts(alloc, cloud, query, *sum, *within, tries, out)
         }
         Wanted::Why(query, host) => write_why(alloc, cloud, query, *host, tries, out),
-        Wanted::Capacity(plans) => write_capacity(alloc, cloud, plans, tries, out),
+        Wanted::Capacity(plans, metrics) => {
+            write_capacity(alloc, cloud, plans, *metrics, tries, out)
+        }
+        Wanted::Amiss(zone) => write_audit(alloc, cloud, *zone, out),
     }
 }

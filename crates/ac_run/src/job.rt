@@ -44,9 +44,14 @@ pub enum Command<'a> {
     Why {
         host: &'a str,
     },
-    /// Writes for each flavor of a table at how many hosts it fits, how many of it can be placed, and what is short.
+    /// Writes for each flavor of a table at how many hosts it fits, how many of it can be placed, and what is short: as rows, or as metrics.
     Capacity {
         flavors: &'a [u8],
+        metrics: bool,
+    },
+    /// Writes what is amiss in the cloud, with an aggregate as the zone of hosts, which is named by its UUID, or with none.
+    Audit {
+        zone: Option<&'a str>,
     },
 }
 
@@ -54,9 +59,9 @@ pub enum Command<'a> {
 #[derive(Clone, Copy)]
 pub struct Job<'a> {
     pub command: Command<'a>,
-    /// What is asked for; empty for `Check` and `Capacity`.
+    /// What is asked for; empty for `Check`, `Capacity` and `Audit`.
     pub query: &'a str,
-    /// The microversion of the API by which queries are read; for `Check` it says nothing.
+    /// The microversion of the API by which queries are read; for `Check` and `Audit` it says nothing.
     pub version: Version,
     /// How many tries each search may make; without a number, as many as it takes.
     pub tries: Option<u64>,

@@ -16,10 +16,10 @@ ghost use Rattle.ac_run.specs.Refusals.{line_told, status_told};
 ghost use Rattle.ac_run.specs.Stops.{AnswerMayStop, TaskMayStop};
 ghost use Rattle.ac_run.specs.Run.{Explains, ExplainsTables, IsStated};
 
-use crate::details::{asked_detail, fault_detail, reading_detail};
 use crate::inputs::{Inputs, Texts, read_tables};
 use crate::job::{Job, Paths};
 use crate::notes::note_if_told;
+use crate::refusal::details::{asked_detail, fault_detail, reading_detail};
 use crate::refusal::{Refusal, Refused, TablesRefusal};
 use crate::wanted::{Wanted, read_wanted};
 use ac_base::{Feed, NoMemory};

@@ -1,6 +1,7 @@
 //! Why a run has no answer.
 ghost use Rattle.std.specs.Prelude.{◌≡◌};
 
+pub(crate) mod details;
 pub mod lines;
 
 use ac_cloud::HostFault;

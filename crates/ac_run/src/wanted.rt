@@ -12,7 +12,7 @@ ghost use Rattle.ac_query.specs.Pairs.{pairs_of};
 ghost use Rattle.ac_query.specs.Pairs.Values.{ids_value};
 ghost use Rattle.ac_query.specs.Shown.Queries.{asked_of};
 ghost use Rattle.ac_query.specs.Tokens.{ids_of, token_fault};
-ghost use Rattle.ac_run.specs.Answer.{answer_in, ids_given, past_token, said_by};
+ghost use Rattle.ac_run.specs.Answer.{answer_in, ids_given, past_token, said_by, zone_named};
 ghost use Rattle.ac_run.specs.Wanted.Given.{token_refusal};
 ghost use Rattle.ac_run.specs.declared.refusal.AskRefusal.TheVariants as AskRefusal;
 ghost use Rattle.ac_run.specs.Notes.{note_to, noted_by};
@@ -20,10 +20,12 @@ ghost use Rattle.ac_run.specs.Stops.{AnswerMayStop, SearchMayStop};
 ghost use Rattle.ac_run.specs.Tasks.{command_shown, task_of, token_in};
 ghost use Rattle.ac_run.specs.Wanted.{ExplainsHost, ExplainsQuery, ExplainsRest, ExplainsToken, ExplainsWanted, IsSound, answer_to, details_in};
 
-use crate::flavors::{Plan, read_plans};
+pub mod mark;
+
+use crate::capacity::flavors::{Plan, read_plans};
 use crate::job::{Command, Job};
 use crate::refusal::AskRefusal;
-use ac_base::NoMemory;
+use ac_base::{Id, NoMemory};
 use ac_cloud::Cloud;
 use ac_query::{Query, QueryFault, Token, TokenFault, Version};
 use ac_report::findings::Question;
@@ -50,8 +52,10 @@ pub enum Wanted {
     Hosts(Query, bool, Option<u128>),
     /// How far a query comes in the tree of a provider, which stands at this place.
     Why(Query, u32),
-    /// How many of each flavor the cloud can hold.
-    Capacity(Vec<Plan>),
+    /// How many of each flavor the cloud can hold: as rows, or as metrics.
+    Capacity(Vec<Plan>, bool),
+    /// What is amiss in the cloud, with an aggregate as the zone of hosts, or with none.
+    Amiss(Option<Id>),
 }
 
 /// The query of a text, as a version reads it. Want of memory is a refusal of its own.
@@ -121,6 +125,13 @@ fn read_question(alloc: Global, query: Query, job: &Job) -> Result<Question, Ask
     }
 }
 
+// The aggregate that a text names by its UUID, where it is one.
+fn zone_named(text: Option<&str>) -> Option<Id>
+    ensures { result ≡ zone_named (option_map (λ t. t.now) text.entry) }
+{
+    Id::read(text?.as_bytes())
+}
+
 // What a query is wanted for.
 #[tactic(auto, using(crate::proofs::HostFound::host_within))]
 fn wanted_of(alloc: Global, job: &Job, cloud: &Cloud, query: Query) -> Result<Wanted, AskRefusal>
@@ -160,7 +171,8 @@ fn wanted_of(alloc: Global, job: &Job, cloud: &Cloud, query: Query) -> Result<Wa
         Command::Explain => Ok(Wanted::Explanation(read_question(alloc, query, job)?)),
         Command::Hosts { sum, within } => Ok(Wanted::Hosts(query, sum, within)),
         Command::Why { host } => Ok(Wanted::Why(query, find_host(cloud, host)?)),
-        Command::Capacity { .. } => Ok(Wanted::Capacity(Vec::new(alloc))),
+        Command::Capacity { metrics, .. } => Ok(Wanted::Capacity(Vec::new(alloc), metrics)),
+        Command::Audit { zone } => Ok(Wanted::Amiss(zone_named(zone))),
     }
 }
 
@@ -179,9 +191,11 @@ pub fn read_wanted(alloc: Global, job: &Job, cloud: &Cloud) -> Result<Wanted, As
 {
     match job.command {
         Command::Check => Ok(Wanted::Counts),
-        Command::Capacity { flavors } => {
-            Ok(Wanted::Capacity(read_plans(alloc, flavors, job.version)?))
+        Command::Capacity { flavors, metrics } => {
+            let plans = read_plans(alloc, flavors, job.version)?;
+            Ok(Wanted::Capacity(plans, metrics))
         }
+        Command::Audit { zone } => Ok(Wanted::Amiss(zone_named(zone))),
         _ => {
             let query = read_query(alloc, job.query, job.version)?;
             Ok(wanted_of(alloc, job, cloud, query)?)

@@ -179,7 +179,7 @@ const TOKENS: Case = Case {
 };
 
 // An answer of each command over one provider.
-static ANSWERS: [Case; 11] = [
+static ANSWERS: [Case; 12] = [
     Case {
         output: "@1\n",
         ..TOKENS
@@ -238,7 +238,7 @@ static ANSWERS: [Case; 11] = [
             after: None,
             traits: true,
         },
-        output: "#,allocation,resource provider,name,inventory used/capacity,traits\n1,VCPU=2,@1,,VCPU=0/8,\n",
+        output: "#,allocation,resource provider,inventory used/capacity,traits,name\n1,VCPU=2,@1,VCPU=0/8,,\n",
         ..TOKENS
     },
     Case {
@@ -250,8 +250,31 @@ static ANSWERS: [Case; 11] = [
     Case {
         command: Command::Capacity {
             flavors: b"flavor,query\na,resources=VCPU:3\n",
+            metrics: false,
         },
         output: "flavor,hosts,at_least,at_most,wanted,short_of,short_at\na,1,2,2,1,VCPU,1\n",
+        ..TOKENS
+    },
+    Case {
+        command: Command::Capacity {
+            flavors: b"flavor,query\na,resources=VCPU:3\n",
+            metrics: true,
+        },
+        output: "# HELP ac_flavor_hosts Root providers at which the flavor fits.\n\
+             # TYPE ac_flavor_hosts gauge\n\
+             ac_flavor_hosts{flavor=\"a\"} 1\n\
+             # HELP ac_flavor_at_least Placements by first fit.\n\
+             # TYPE ac_flavor_at_least gauge\n\
+             ac_flavor_at_least{flavor=\"a\"} 2\n\
+             # HELP ac_flavor_at_most Placements in any order at most.\n\
+             # TYPE ac_flavor_at_most gauge\n\
+             ac_flavor_at_most{flavor=\"a\"} 2\n\
+             # HELP ac_flavor_wanted Placements that are wanted.\n\
+             # TYPE ac_flavor_wanted gauge\n\
+             ac_flavor_wanted{flavor=\"a\"} 1\n\
+             # HELP ac_flavor_short_at Root providers that are short of the label short_of.\n\
+             # TYPE ac_flavor_short_at gauge\n\
+             ac_flavor_short_at{flavor=\"a\",short_of=\"VCPU\"} 1\n",
         ..TOKENS
     },
 ];
@@ -286,7 +309,8 @@ fn with_text<'a>(command: Command<'static>, text: Option<&'a str>) -> Command<'a
         Command::Why { .. } => Command::Why {
             host: text.unwrap_or(""),
         },
-        Command::Capacity { flavors } => Command::Capacity { flavors },
+        Command::Capacity { flavors, metrics } => Command::Capacity { flavors, metrics },
+        Command::Audit { zone } => Command::Audit { zone },
     }
 }
 

@@ -186,7 +186,7 @@ const BODY: &str =
 const LINE: &str = "@01\n";
 
 const ROW: &str =
-    "#,allocation,resource provider,name,inventory used/capacity,traits\n1,VCPU=2,@01,,VCPU=0/8,\n";
+    "#,allocation,resource provider,inventory used/capacity,traits,name\n1,VCPU=2,@01,VCPU=0/8,,\n";
 
 const NO_BODY: &str = "{\"allocation_requests\":[],\"provider_summaries\":{}}\n";
 
@@ -204,7 +204,7 @@ const BODY_SO_FAR: &str =
 
 const IN_A_ROW: &[Turn] = &[Turn::Up(1000), Turn::Up(3), Turn::Failed];
 
-const ROW_SO_FAR: &str = "#,allocation,resource provider,name,inventory used/capacity,traits\n1,V";
+const ROW_SO_FAR: &str = "#,allocation,resource provider,inventory used/capacity,traits,name\n1,V";
 
 // A list is asked for only when the text of the one before has been pushed whole.
 static CASES: [Case; 12] = [

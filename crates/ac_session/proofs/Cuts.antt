@@ -1,37 +1,89 @@
 -- The words of a line, cut off one by one.
-use Rattle.std.proofs.Common.{◌≡◌, ◌<◌, ℕ, List, [], ◌∷◌, None, Bool, true, false, ◌==◌, length, if◌then◌else◌, refl, ap, ◌∙◌, arith}
+use Rattle.std.proofs.Common.{◌≡◌, ◌<◌, ℕ, List, [], ◌∷◌, None, Some, Bool, true, false, nat_lt, length, Option, option_map, if◌then◌else◌, refl, sym, ap, ◌∙◌, arith}
 use Rattle.std.specs.List.{after_first, before_first, position_or_len}
 use Rattle.std.proofs.lemmas.List.Splits.{length-slice_split, slice_split_first, slice_split_none}
 use Rattle.std.proofs.lemmas.List.Sums.{fails_before_first}
+use Rattle.std.proofs.lemmas.Bool.Decides.{nat_tests}
 use Rattle.std.proofs.lemmas.Str.{IsUtf8-from_is_utf8, is_utf8-from_IsUtf8}
 use Rattle.std.specs.Str.{IsUtf8, is_utf8}
 use Rattle.ac_query.specs.declared.version.Version.{Version}
-use Rattle.ac_session.specs.Questions.{Asked, nothing, unknown, wrong_number, asked_by_name, asked_by_words, asked_of, asks_alone, is_blank, one_of, one_or_two_of, words_of}
+use Rattle.ac_run.specs.Wanted.Mark.{past_mark}
+use Rattle.ac_session.specs.Questions.{Asked, unknown, wrong_number, asked_by_name, asked_of, asks_alone, behind_blank, is_blank, is_logged, is_passed_over, one_of, one_or_two_of, query_words, two_of, with_query, words_behind, words_of}
+use Rattle.ac_session.proofs.Leading.Firsts.{before_missed, place_inside}
 
-pub words_cut : (text : List ℕ) → position_or_len is_blank text < length text → words_of text ≡ before_first is_blank text ∷ words_of (after_first is_blank text)
-words_cut text found = slice_split_first is_blank text 0 found
-
-pub words_whole : (text : List ℕ) → position_or_len is_blank text ≡ length text → words_of text ≡ text ∷ []
-words_whole text missed = slice_split_none is_blank text (λ k d inside. fails_before_first is_blank text k d (omega arith))
+-- the words of a text are what stands before its first blank, and those behind it
+pub words_split : (text : List ℕ) → words_of text ≡ before_first is_blank text ∷ words_behind (behind_blank text)
+words_split text = by (nat_lt (position_or_len is_blank text) (length text)) refl
+  where
+    by : (b : Bool) → nat_lt (position_or_len is_blank text) (length text) ≡ b
+        → words_of text ≡ before_first is_blank text ∷ words_behind (if b then Some (after_first is_blank text) else None)
+    by true found = slice_split_first is_blank text 0 (grind (arith, nat_tests, found))
+    by false missed =
+        let at : position_or_len is_blank text ≡ length text = grind (arith, nat_tests, missed, place_inside is_blank text) in
+        slice_split_none is_blank text (λ k d inside. fails_before_first is_blank text k d (omega arith))
+        ∙ ap (λ word. word ∷ []) (sym (before_missed is_blank text at))
 
 some_word : (text : List ℕ) → 0 < length (words_of text)
 some_word text = omega (arith, length-slice_split is_blank text)
 
+-- without a blank they are the text alone
+pub one_alone : (text : List ℕ) → behind_blank text ≡ None → one_of (words_of text) ≡ Some (before_first is_blank text)
+one_alone text none = ap one_of (words_split text) ∙ ap (λ rest. one_of (before_first is_blank text ∷ words_behind rest)) none
+
 -- behind a blank stands a word at least
-pub two_words_at_least : (word text : List ℕ) → one_of (word ∷ words_of text) ≡ None
-two_words_at_least word text = by (words_of text) (some_word text)
+pub two_words_at_least : (text rest : List ℕ) → behind_blank text ≡ Some rest → one_of (words_of text) ≡ None
+two_words_at_least text rest found =
+    ap one_of (words_split text) ∙ ap (λ rest. one_of (before_first is_blank text ∷ words_behind rest)) found ∙ by (words_of rest) (some_word rest)
   where
-    by : (words : List (List ℕ)) → 0 < length words → one_of (word ∷ words) ≡ None
+    by : (words : List (List ℕ)) → 0 < length words → one_of (before_first is_blank text ∷ words) ≡ None
     by [] some = absurd (omega arith)
     by (next ∷ words) some = refl
 
-pub not_one_behind : (word text : List ℕ) → one_of (words_of text) ≡ None → one_or_two_of (word ∷ words_of text) ≡ None
-not_one_behind word text = by (words_of text) (some_word text)
-  where
-    by : (words : List (List ℕ)) → 0 < length words → one_of words ≡ None → one_or_two_of (word ∷ words) ≡ None
-    by [] some none = absurd (omega arith)
-    by (next ∷ []) some none = cc
-    by (next ∷ third ∷ words) some none = refl
+-- ---- a query, and what stands behind it
+
+-- of a line of a log the query is left
+pub logged_alone : (text : List ℕ) → is_logged text ≡ true → query_words (Some text) ≡ past_mark text ∷ []
+logged_alone text logged = ap (λ b. if b then past_mark text ∷ [] else with_query (words_of text)) logged
+
+-- a query alone, or with the one word of what stands behind it
+abbrev pub perhaps : List ℕ → Option (List ℕ) → Option (List ℕ × Option (List ℕ))
+perhaps query None = Some (query, None)
+perhaps query (Some rest) = option_map (λ word. (query, Some word)) (one_of (words_of rest))
+
+module _ (text : List ℕ) (own : is_logged text ≡ false) where
+  abbrev first : List ℕ
+  first = before_first is_blank text
+
+  apart : query_words (Some text) ≡ past_mark first ∷ words_behind (behind_blank text)
+  apart = ap (λ b. if b then past_mark text ∷ [] else with_query (words_of text)) own ∙ ap with_query (words_split text)
+
+  pub query_alone : one_of (query_words (Some text)) ≡ option_map past_mark (one_of (words_of text))
+  query_alone = ap one_of apart ∙ by (words_behind (behind_blank text)) ∙ ap (λ all. option_map past_mark (one_of all)) (sym (words_split text))
+    where
+      by : (others : List (List ℕ)) → one_of (past_mark first ∷ others) ≡ option_map past_mark (one_of (first ∷ others))
+      by [] = refl
+      by (next ∷ others) = refl
+
+  pub query_with_word : two_of (query_words (Some text)) ≡ option_map (λ word. (past_mark first, word)) (one_of (words_behind (behind_blank text)))
+  query_with_word = ap two_of apart ∙ by (words_behind (behind_blank text))
+    where
+      by : (others : List (List ℕ)) → two_of (past_mark first ∷ others) ≡ option_map (λ word. (past_mark first, word)) (one_of others)
+      by [] = refl
+      by (word ∷ []) = refl
+      by (word ∷ next ∷ others) = refl
+
+  pub query_perhaps_with_word : one_or_two_of (query_words (Some text)) ≡ perhaps (past_mark first) (behind_blank text)
+  query_perhaps_with_word = ap one_or_two_of apart ∙ by (behind_blank text)
+    where
+      by_words : (others : List (List ℕ)) → 0 < length others
+          → one_or_two_of (past_mark first ∷ others) ≡ option_map (λ word. (past_mark first, Some word)) (one_of others)
+      by_words [] some = absurd (omega arith)
+      by_words (word ∷ []) some = refl
+      by_words (word ∷ next ∷ others) some = refl
+
+      by : (rest : Option (List ℕ)) → one_or_two_of (past_mark first ∷ words_behind rest) ≡ perhaps (past_mark first) rest
+      by None = refl
+      by (Some rest) = by_words (words_of rest) (some_word rest)
 
 pub not_alone : (text : List ℕ) (asked : Asked) → asks_alone (words_of text) asked ≡ wrong_number
 not_alone text asked = by (words_of text) (some_word text)
@@ -40,19 +92,14 @@ not_alone text asked = by (words_of text) (some_word text)
     by [] some = absurd (omega arith)
     by (next ∷ words) some = refl
 
--- a line with bytes asks what its words ask, if it is text
-pub asked_as_text : (version : Version) (line name : List ℕ) (words : List (List ℕ)) → (length line == 0) ≡ false → IsUtf8 line → words_of line ≡ name ∷ words
-    → asked_of version line ≡ asked_by_name version name words
-asked_as_text version line name words filled text cut =
-    ap (λ b. if b then nothing else if is_utf8 line then asked_by_words version (words_of line) else unknown) filled
-    ∙ ap (λ b. if b then asked_by_words version (words_of line) else unknown) (is_utf8-from_IsUtf8 line text)
-    ∙ ap (asked_by_words version) cut
+-- a line with bytes asks what its name asks with what stands behind it, if it is text
+pub asked_as_text : (version : Version) (line : List ℕ) → is_passed_over line ≡ false → IsUtf8 line
+    → asked_of version line ≡ asked_by_name version (before_first is_blank line) (behind_blank line)
+asked_as_text version line filled text = rw (filled, is_utf8-from_IsUtf8 line text) refl
 
-pub asked_as_bytes : (version : Version) (line : List ℕ) → (length line == 0) ≡ false → (IsUtf8 line → ⊥) → asked_of version line ≡ unknown
-asked_as_bytes version line filled bytes =
-    ap (λ b. if b then nothing else if is_utf8 line then asked_by_words version (words_of line) else unknown) filled
-    ∙ by (is_utf8 line) refl
+pub asked_as_bytes : (version : Version) (line : List ℕ) → is_passed_over line ≡ false → (IsUtf8 line → ⊥) → asked_of version line ≡ unknown
+asked_as_bytes version line filled bytes = by (is_utf8 line) refl
   where
-    by : (b : Bool) → is_utf8 line ≡ b → (if b then asked_by_words version (words_of line) else unknown) ≡ unknown
+    by : (b : Bool) → is_utf8 line ≡ b → asked_of version line ≡ unknown
     by true e = absurd (bytes (IsUtf8-from_is_utf8 line e))
-    by false e = refl
+    by false e = rw (filled, e) refl

@@ -21,7 +21,7 @@ use Rattle.ac_run.specs.Tasks.{Command, Paths}
 use Rattle.ac_run.specs.Tasks as command
 use Rattle.ac_session.proofs.Stood.{first_none, none_added}
 use Rattle.ac_session.specs.Lines.{Given, line, too_long, end}
-use Rattle.ac_session.specs.Questions.{Asked, job, fill, claim, release, usages, nothing, unknown, wrong_number, asked_of}
+use Rattle.ac_session.specs.Questions.{Asked, job, fill, claim, release, usages, left_at, help, nothing, unknown, wrong_number, asked_of}
 use Rattle.ac_session.specs.Sessions.{held, held_with, session_answer, session_answer_with}
 use Rattle.ac_session.specs.Standing.{stop_status}
 use Rattle.ac_session.specs.Tries.{AreStops, AskedMayStop, GivenMayStop, WithStops, text_with}
@@ -80,7 +80,8 @@ search_none (command.verify token) version all asked may = may
 search_none command.explain version all asked may = explanation_none all asked may
 search_none (command.hosts sum within) version all asked may = may
 search_none (command.why host) version all asked may = may
-search_none (command.capacity flavors) version all asked may = may.2
+search_none (command.capacity flavors metrics) version all asked may = may.2
+search_none (command.audit zone) version all asked may = may
 
 asked_none : (version : Version) (world : World) (asked : Asked) → AskedMayStop None version world asked → ⊥
 asked_none version world (job task) may = search_none task.command task.version world.providers _ may.0
@@ -88,6 +89,8 @@ asked_none version world (fill query) may = may.0
 asked_none version world (claim query token) may = may
 asked_none version world (release query token) may = may
 asked_none version world usages may = may
+asked_none version world (left_at host) may = may
+asked_none version world help may = may
 asked_none version world nothing may = may
 asked_none version world unknown may = may
 asked_none version world wrong_number may = may

@@ -38,7 +38,7 @@ use Rattle.ac_run.specs.declared.refusal.AskRefusal.{AskRefusal}
 use Rattle.ac_run.specs.declared.refusal.AskRefusal.TheVariants as ask
 use Rattle.ac_session.proofs.Written.{turn_whole}
 use Rattle.ac_session.specs.Laws.{AskingLeavesAll, ClaimTurnsNarrow}
-use Rattle.ac_session.specs.Questions.{claim, fill, job, nothing, release, unknown, usages, wrong_number}
+use Rattle.ac_session.specs.Questions.{claim, fill, help, job, left_at, nothing, release, unknown, usages, wrong_number}
 use Rattle.ac_session.specs.Standing.{Gives, IsRefusal, TakesTurn}
 use Rattle.ac_session.specs.Turns.{claim_line, claim_of, claim_said, claim_turn, places_named, placed_by, release_line, release_of, release_said, release_turn, settles, world_after}
 use Rattle.ac_session.specs.declared.endings.AnswerFault.{AnswerFault}
@@ -67,7 +67,8 @@ not_refused (wanted.Verdict query token detail) tries world may = absurd may
 not_refused (wanted.Explanation question) tries world may = refl
 not_refused (wanted.Hosts query sum within) tries world may = refl
 not_refused (wanted.Why query host) tries world may = refl
-not_refused (wanted.Capacity plans) tries world may = refl
+not_refused (wanted.Capacity plans metrics) tries world may = refl
+not_refused (wanted.Amiss _) tries world may = absurd may
 
 pub query_refused : (version : Version) (query : List ℕ) (refusal : AskRefusal) → ExplainsQuery (query_fault version query) refusal
     → (say : Says) (token : Option (List ℕ)) → IsRefusal refusal (past_query say token version query)
@@ -89,7 +90,7 @@ pub wanted_refused : (task : Task) (world : World) (refusal : AskRefusal) → Ex
 wanted_refused task world (ask.Query f) h told = asks_query task.command _ task.version task.query world h.0 ∙ rw (h.1.2, h.1.1) refl
 wanted_refused task world (ask.Token f) h told = asks_query task.command _ task.version task.query world h.0 ∙ rw (h.1, h.2) refl
 wanted_refused task world (ask.Host f) h told = asks_query task.command _ task.version task.query world h.0 ∙ rw (h.1, h.2.1, h.2.2) refl
-wanted_refused task world (ask.Flavors f) h told = rw (h.1, h.2) refl
+wanted_refused task world (ask.Flavors f) h told = rw (h.2, h.3) refl
 wanted_refused task world ask.NoMemory h told = absurd (told refl)
 
 refused_status : (refusal : AskRefusal) (most : ℕ) → most ≤ 1 → nat_le (status_of_asked refusal) most ≡ false
@@ -180,6 +181,8 @@ asking_leaves_all version world (fill query) h = absurd h
 asking_leaves_all version world (claim query token) h = absurd h
 asking_leaves_all version world (release query token) h = absurd h
 asking_leaves_all version world usages h = refl
+asking_leaves_all version world (left_at host) h = refl
+asking_leaves_all version world help h = refl
 asking_leaves_all version world nothing h = refl
 asking_leaves_all version world unknown h = refl
 asking_leaves_all version world wrong_number h = refl

@@ -8,7 +8,7 @@ use Rattle.ac_query.specs.declared.version.Version.{Version}
 use Rattle.ac_rules.specs.Judge.{is_candidate}
 use Rattle.ac_run.specs.Answer.{past_query, written}
 use Rattle.ac_session.specs.Lines.{Given, behind_line, first_line, is_newline, newline}
-use Rattle.ac_session.specs.Questions.{Asked, Text, job, fill, claim, release, usages, nothing, unknown, wrong_number, is_blank, words_of}
+use Rattle.ac_session.specs.Questions.{Asked, Text, job, fill, claim, release, usages, left_at, help, nothing, unknown, wrong_number, is_blank, words_of}
 use Rattle.ac_session.specs.Turns.{answers, claim_line, claim_turn, lines_in, release_turn, turn_asked, turn_of}
 use Rattle.ac_tables.specs.Tables.{Tables, tables_fault, world_stated}
 use Rattle.ac_tables.specs.Tables.Rows.{records_of}
@@ -35,6 +35,8 @@ OnlyAsks (fill query) = ⊥
 OnlyAsks (claim query token) = ⊥
 OnlyAsks (release query token) = ⊥
 OnlyAsks usages = ⊤
+OnlyAsks (left_at host) = ⊤
+OnlyAsks help = ⊤
 OnlyAsks nothing = ⊤
 OnlyAsks unknown = ⊤
 OnlyAsks wrong_number = ⊤

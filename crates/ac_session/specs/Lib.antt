@@ -5,6 +5,8 @@ pub mod Questions
 pub mod Frames
 pub mod Escapes
 pub mod UsageRows
+pub mod LeftRows
+pub mod Helps
 pub mod Turns
 pub mod Tries
 pub mod Sessions

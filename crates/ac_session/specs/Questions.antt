@@ -1,12 +1,13 @@
 -- Questions: what the words of a line ask.
 pub mod LineFaults
-use Rattle.std.specs.Prelude.{ℕ, ◌==◌, Bool, true, false, List, [], ◌∷◌, length, codes, Option, Some, None, if◌then◌else◌}
-use Rattle.std.specs.List.{slice_split}
+use Rattle.std.specs.Prelude.{ℕ, ◌==◌, ◌&&◌, nat_lt, Bool, true, false, List, [], ◌∷◌, codes, length, Option, Some, None, option_map, if◌then◌else◌}
+use Rattle.std.specs.List.{after_first, before_first, list_any, position_or_len, slice_split}
 use Rattle.std.specs.Str.{bytes_eq, is_utf8}
 use Rattle.ac_query.specs.declared.version.Version.{Version}
 use Rattle.ac_query.specs.declared.version.Version.TheVariants.{V136}
 use Rattle.ac_run.specs.Tasks as task
 use Rattle.ac_run.specs.Tasks.{Command, Task, check, candidates, tokens, list, verify, explain, hosts, why, task_of}
+use Rattle.ac_run.specs.Wanted.Mark.{has_path, is_mark, past_mark}
 use Rattle.ac_session.specs.declared.questions.Question.{Question}
 use Rattle.ac_session.specs.declared.questions.Question.TheVariants as question
 
@@ -21,6 +22,29 @@ is_blank byte = byte == 32
 -- the words of a line: what stands between its blanks, and may be empty
 abbrev pub words_of : Text → List Text
 words_of line = slice_split is_blank line
+
+-- what stands behind the first blank, where there is one
+abbrev pub behind_blank : Text → Option Text
+behind_blank text = if nat_lt (position_or_len is_blank text) (length text) then Some (after_first is_blank text) else None
+
+-- the words of what stands behind a blank
+abbrev pub words_behind : Option Text → List Text
+words_behind None = []
+words_behind (Some text) = words_of text
+
+-- whether a text is a line of a log: one with a path in which a blank stands
+abbrev pub is_logged : Text → Bool
+is_logged text = has_path text && list_any is_blank (before_first is_mark text)
+
+-- words, the first of which is a query: it is left without the path of a URL
+abbrev pub with_query : List Text → List Text
+with_query [] = []
+with_query (query ∷ words) = past_mark query ∷ words
+
+-- the words of what begins with a query: of a line of a log the query in it alone
+abbrev pub query_words : Option Text → List Text
+query_words None = []
+query_words (Some text) = if is_logged text then past_mark text ∷ [] else with_query (words_of text)
 
 -- the word, where there is one alone
 abbrev pub one_of : List Text → Option Text
@@ -47,6 +71,8 @@ pub data Asked : Type 0 where
   claim : Text → Text → Asked
   release : Text → Text → Asked
   usages : Asked
+  left_at : Option Text → Asked
+  help : Asked
   nothing : Asked
   unknown : Asked
   wrong_number : Asked
@@ -89,10 +115,16 @@ asks_claim words = asks (two_of words) (λ p. claim p.0 p.1)
 abbrev pub asks_release : List Text → Asked
 asks_release words = asks (two_of words) (λ p. release p.0 p.1)
 
--- what the words behind a name ask
-abbrev pub asked_by_name : Version → Text → List Text → Asked
-asked_by_name version name words =
-    if bytes_eq name (codes "check") then asks_alone words (asks_job check [] V136)
+-- nothing, or a host
+abbrev pub asks_left : Option Text → Asked
+asks_left None = left_at None
+asks_left (Some rest) = asks (one_of (words_of rest)) (λ host. left_at (Some host))
+
+-- what is asked by a name, and by what stands behind it
+abbrev pub asked_by_name : Version → Text → Option Text → Asked
+asked_by_name version name rest =
+    let words = query_words rest in
+    if bytes_eq name (codes "check") then asks_alone (words_behind rest) (asks_job check [] V136)
     else if bytes_eq name (codes "candidates") then asks_search (λ after. candidates after true) version words
     else if bytes_eq name (codes "tokens") then asks_search tokens version words
     else if bytes_eq name (codes "list") then asks_search (λ after. list after true) version words
@@ -102,19 +134,24 @@ asked_by_name version name words =
     else if bytes_eq name (codes "explain") then asks_query explain version words
     else if bytes_eq name (codes "hosts") then asks_query (hosts false None) version words
     else if bytes_eq name (codes "why") then asks_about why version words
+    else if bytes_eq name (codes "audit") then asks_alone (words_behind rest) (asks_job (task.audit None) [] V136)
     else if bytes_eq name (codes "claim") then asks_claim words
     else if bytes_eq name (codes "release") then asks_release words
-    else if bytes_eq name (codes "usages") then asks_alone words usages
+    else if bytes_eq name (codes "usages") then asks_alone (words_behind rest) usages
+    else if bytes_eq name (codes "left") then asks_left rest
+    else if bytes_eq name (codes "help") then asks_alone (words_behind rest) help
     else unknown
 
-abbrev pub asked_by_words : Version → List Text → Asked
-asked_by_words version [] = unknown
-asked_by_words version (name ∷ words) = asked_by_name version name words
+-- a line without bytes, or a comment, which begins with `#`
+abbrev pub is_passed_over : Text → Bool
+is_passed_over [] = true
+is_passed_over (first ∷ rest) = first == 35
 
 -- what a line asks; one that isn't UTF-8 is no command
 abbrev pub asked_of : Version → Text → Asked
 asked_of version line =
-    if length line == 0 then nothing else if is_utf8 line then asked_by_words version (words_of line) else unknown
+    if is_passed_over line then nothing
+    else if is_utf8 line then asked_by_name version (before_first is_blank line) (behind_blank line) else unknown
 
 -- ---- what is read
 
@@ -125,11 +162,8 @@ asked_in (question.Fill query) = fill query.now
 asked_in (question.Claim query token) = claim query.now token.now
 asked_in (question.Release query token) = release query.now token.now
 asked_in question.Usages = usages
+asked_in (question.Left host) = left_at (option_map (λ t. t.now) host)
+asked_in question.Help = help
 asked_in question.Nothing = nothing
 asked_in question.Unknown = unknown
 asked_in question.WrongNumber = wrong_number
-
--- the words of what stands behind a word and a blank
-abbrev pub words_behind : Option Text → List Text
-words_behind None = []
-words_behind (Some text) = words_of text

@@ -10,7 +10,7 @@ use Rattle.ac_run.specs.Stops.{SearchMayStop}
 use Rattle.ac_run.specs.Tasks.{Task}
 use Rattle.ac_search.specs.Shown.Walk.{MayStop}
 use Rattle.ac_session.specs.Lines.{Given, line, too_long, end}
-use Rattle.ac_session.specs.Questions.{Asked, Text, job, fill, claim, release, usages, nothing, unknown, wrong_number, asked_of}
+use Rattle.ac_session.specs.Questions.{Asked, Text, job, fill, claim, release, usages, left_at, help, nothing, unknown, wrong_number, asked_of}
 use Rattle.ac_session.specs.Turns.{Turn, answers, lines_in, output_of, session_text, text_of, turn_of}
 
 -- ---- which may stop
@@ -32,6 +32,8 @@ AskedMayStop tries version world (fill query) = FillMayStop tries version world 
 AskedMayStop tries version world (claim query token) = ⊥
 AskedMayStop tries version world (release query token) = ⊥
 AskedMayStop tries version world usages = ⊥
+AskedMayStop tries version world (left_at host) = ⊥
+AskedMayStop tries version world help = ⊥
 AskedMayStop tries version world nothing = ⊥
 AskedMayStop tries version world unknown = ⊥
 AskedMayStop tries version world wrong_number = ⊥

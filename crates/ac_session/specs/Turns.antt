@@ -20,7 +20,9 @@ use Rattle.ac_run.specs.Outputs.{verdict_text}
 use Rattle.ac_session.specs.Frames.{end_line, lines_written}
 use Rattle.ac_session.specs.Questions.LineFaults.{fault_line, fault_status}
 use Rattle.ac_session.specs.Lines.{Given, line, too_long, end, is_newline, most_bytes, without_return}
-use Rattle.ac_session.specs.Questions.{Asked, job, fill, claim, release, usages, nothing, unknown, wrong_number, asked_of}
+use Rattle.ac_session.specs.Helps.{help_text}
+use Rattle.ac_session.specs.LeftRows.{left_answer}
+use Rattle.ac_session.specs.Questions.{Asked, job, fill, claim, release, usages, left_at, help, nothing, unknown, wrong_number, asked_of}
 use Rattle.ac_session.specs.UsageRows.{usage_rows}
 use Rattle.ac_session.specs.declared.line_faults.LineFault.{LineFault}
 use Rattle.ac_session.specs.declared.line_faults.LineFault.TheVariants as fault
@@ -139,6 +141,8 @@ turn_asked version world (fill query) = fill_turn version query world
 turn_asked version world (claim query token) = claim_turn version query token world
 turn_asked version world (release query token) = release_turn version query token world
 turn_asked version world usages = answers world (usage_rows world.providers)
+turn_asked version world (left_at host) = answers world (left_answer world.providers host)
+turn_asked version world help = answers world (written help_text 0)
 turn_asked version world nothing = passes world
 turn_asked version world unknown = answers world (faulted fault.UnknownCommand)
 turn_asked version world wrong_number = answers world (faulted fault.WrongNumber)

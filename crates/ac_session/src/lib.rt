@@ -5,7 +5,9 @@
 
 mod endings;
 mod escaping;
+mod help;
 pub mod laws;
+mod left;
 pub mod line_faults;
 pub mod lines;
 pub mod questions;

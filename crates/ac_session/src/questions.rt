@@ -1,10 +1,11 @@
 //! The question that a line asks.
-ghost use Rattle.std.specs.Prelude.{◌≡◌, ◌∷◌, true, option_map};
+ghost use Rattle.std.specs.Prelude.{◌≡◌, true, option_map};
+ghost use Rattle.std.specs.List.{before_first, list_any};
 ghost use Rattle.ac_run.specs.Tasks.{candidates, command_shown, list, tokens, verify, why};
-ghost use Rattle.ac_session.specs.Questions.{asked_by_name, asked_in, asked_of, asks_about, asks_alone, asks_claim, asks_fill, asks_job, asks_query, asks_release, asks_search, one_of, one_or_two_of, two_of, words_behind, words_of};
+ghost use Rattle.ac_session.specs.Questions.{asked_by_name, asked_in, asked_of, asks_about, asks_alone, asks_claim, asks_fill, asks_job, asks_left, asks_query, asks_release, asks_search, behind_blank, is_blank, is_logged, is_passed_over, one_of, one_or_two_of, query_words, two_of, words_behind};
 
 use ac_query::Version;
-use ac_run::{Command, Job};
+use ac_run::{Command, Job, has_path, past_mark};
 
 /// What a line asks.
 #[derive(Clone, Copy)]
@@ -19,7 +20,11 @@ pub enum Question<'a> {
     Release { query: &'a str, token: &'a str },
     /// The used amounts.
     Usages,
-    /// Nothing: the line is empty.
+    /// What is left of all inventories, or of those of a host's tree.
+    Left { host: Option<&'a str> },
+    /// What may be asked.
+    Help,
+    /// Nothing: the line is empty, or a comment.
     Nothing,
     /// Its first word is no command, or it isn't UTF-8.
     Unknown,
@@ -27,11 +32,10 @@ pub enum Question<'a> {
     WrongNumber,
 }
 
-// The first word of a text, and what stands behind the blank after it.
-#[tactic(auto, using(crate::proofs::Cuts::words_cut, crate::proofs::Cuts::words_whole))]
+// What stands before the first blank of a text, and what behind it.
 fn cut(text: &str) -> (&str, Option<&str>)
-    ensures { words_of text.now
-        ≡ result.0.now ∷ words_behind (option_map (λ t. t.now) result.1) }
+    ensures first { result.0.now ≡ before_first is_blank text.now }
+    ensures rest { option_map (λ t. t.now) result.1 ≡ behind_blank text.now }
 {
     match text.split_once(' ') {
         Some((word, rest)) => (word, Some(rest)),
@@ -40,7 +44,7 @@ fn cut(text: &str) -> (&str, Option<&str>)
 }
 
 // The word of a rest, where it is one alone.
-#[tactic(auto, using(crate::proofs::Cuts::two_words_at_least))]
+#[tactic(auto, using(crate::proofs::Cuts::one_alone, crate::proofs::Cuts::two_words_at_least))]
 fn one_word(rest: Option<&str>) -> Option<&str>
     ensures { option_map (λ t. t.now) result
         ≡ one_of (words_behind (option_map (λ t. t.now) rest.entry)) }
@@ -51,28 +55,65 @@ fn one_word(rest: Option<&str>) -> Option<&str>
     }
 }
 
-// The two words of a rest, where they are two.
-fn two_words(rest: Option<&str>) -> Option<(&str, &str)>
-    ensures { option_map (λ p. (p.0.now, p.1.now)) result
-        ≡ two_of (words_behind (option_map (λ t. t.now) rest.entry)) }
+// Whether a text has a blank.
+fn has_blank(text: &str) -> bool
+    ensures { result ≡ list_any is_blank text.now }
 {
-    let (first, rest) = cut(rest?);
-    let second = one_word(rest)?;
-    Some((first, second))
+    text.as_bytes().iter().any(|byte| *byte == b' ')
 }
 
-// The first word of a rest, and the second if it has one, where there are no more.
-#[tactic(auto, using(crate::proofs::Cuts::not_one_behind))]
-fn one_or_two_words(rest: Option<&str>) -> Option<(&str, Option<&str>)>
-    ensures { option_map (λ p. (p.0.now, option_map (λ t. t.now) p.1)) result
-        ≡ one_or_two_of (words_behind (option_map (λ t. t.now) rest.entry)) }
+// Whether a text is a line of a log: one with a path in which a blank stands.
+fn is_logged(text: &str) -> bool
+    ensures { result ≡ is_logged text.now }
 {
-    let (first, rest) = cut(rest?);
-    if rest.is_none() {
-        return Some((first, None));
+    match text.split_once('?') {
+        Some((path, _)) => has_path(text) && has_blank(path),
+        None => false,
     }
-    let second = one_word(rest)?;
-    Some((first, Some(second)))
+}
+
+// The query of a rest, where nothing else stands there but what a log has beside it.
+#[tactic(auto, using(crate::proofs::Cuts::logged_alone, crate::proofs::Cuts::query_alone))]
+fn one_query(rest: Option<&str>) -> Option<&str>
+    ensures { option_map (λ t. t.now) result
+        ≡ one_of (query_words (option_map (λ t. t.now) rest.entry)) }
+{
+    if is_logged(rest?) {
+        return Some(past_mark(rest?));
+    }
+    Some(past_mark(one_word(rest)?))
+}
+
+// The query of a rest and one word more, where they are all.
+#[tactic(auto, using(crate::proofs::Cuts::logged_alone, crate::proofs::Cuts::query_with_word))]
+fn query_and_word(rest: Option<&str>) -> Option<(&str, &str)>
+    ensures { option_map (λ p. (p.0.now, p.1.now)) result
+        ≡ two_of (query_words (option_map (λ t. t.now) rest.entry)) }
+{
+    if is_logged(rest?) {
+        return None;
+    }
+    let (query, rest) = cut(rest?);
+    let word = one_word(rest)?;
+    Some((past_mark(query), word))
+}
+
+// The query of a rest, and one word more if there is one, where they are all.
+#[tactic(auto, using(crate::proofs::Cuts::logged_alone, crate::proofs::Cuts::query_perhaps_with_word))]
+fn query_and_perhaps_word(rest: Option<&str>) -> Option<(&str, Option<&str>)>
+    ensures { option_map (λ p. (p.0.now, option_map (λ t. t.now) p.1)) result
+        ≡ one_or_two_of (query_words (option_map (λ t. t.now) rest.entry)) }
+{
+    if is_logged(rest?) {
+        return Some((past_mark(rest?), None));
+    }
+    match cut(rest?) {
+        (query, None) => Some((past_mark(query), None)),
+        (query, Some(rest)) => {
+            let word = one_word(Some(rest))?;
+            Some((past_mark(query), Some(word)))
+        }
+    }
 }
 
 // What the words behind a name ask, where there is to be none.
@@ -103,9 +144,9 @@ fn job<'a>(command: Command<'a>, query: &'a str, version: Version) -> Question<'
 // The candidates for a query, perhaps from a token on.
 fn candidates(version: Version, rest: Option<&str>) -> Question<'_>
     ensures { asked_in result ≡ asks_search (λ after. candidates after true) version
-        (words_behind (option_map (λ t. t.now) rest.entry)) }
+        (query_words (option_map (λ t. t.now) rest.entry)) }
 {
-    match one_or_two_words(rest) {
+    match query_and_perhaps_word(rest) {
         Some((query, after)) => job(
             Command::Candidates {
                 after,
@@ -121,9 +162,9 @@ fn candidates(version: Version, rest: Option<&str>) -> Question<'_>
 // Their tokens.
 fn tokens(version: Version, rest: Option<&str>) -> Question<'_>
     ensures { asked_in result ≡ asks_search tokens version
-        (words_behind (option_map (λ t. t.now) rest.entry)) }
+        (query_words (option_map (λ t. t.now) rest.entry)) }
 {
-    match one_or_two_words(rest) {
+    match query_and_perhaps_word(rest) {
         Some((query, after)) => job(Command::Tokens { after }, query, version),
         None => Question::WrongNumber,
     }
@@ -132,9 +173,9 @@ fn tokens(version: Version, rest: Option<&str>) -> Question<'_>
 // Their rows.
 fn list(version: Version, rest: Option<&str>) -> Question<'_>
     ensures { asked_in result ≡ asks_search (λ after. list after true) version
-        (words_behind (option_map (λ t. t.now) rest.entry)) }
+        (query_words (option_map (λ t. t.now) rest.entry)) }
 {
-    match one_or_two_words(rest) {
+    match query_and_perhaps_word(rest) {
         Some((query, after)) => job(
             Command::List {
                 after,
@@ -150,9 +191,9 @@ fn list(version: Version, rest: Option<&str>) -> Question<'_>
 // A command over a query alone.
 fn over_query<'a>(command: Command<'a>, version: Version, rest: Option<&'a str>) -> Question<'a>
     ensures { asked_in result ≡ asks_query (command_shown command.entry) version
-        (words_behind (option_map (λ t. t.now) rest.entry)) }
+        (query_words (option_map (λ t. t.now) rest.entry)) }
 {
-    match one_word(rest) {
+    match one_query(rest) {
         Some(query) => job(command, query, version),
         None => Question::WrongNumber,
     }
@@ -161,9 +202,9 @@ fn over_query<'a>(command: Command<'a>, version: Version, rest: Option<&'a str>)
 // Whether a token fits a query.
 fn verify(version: Version, rest: Option<&str>) -> Question<'_>
     ensures { asked_in result ≡ asks_about verify version
-        (words_behind (option_map (λ t. t.now) rest.entry)) }
+        (query_words (option_map (λ t. t.now) rest.entry)) }
 {
-    match two_words(rest) {
+    match query_and_word(rest) {
         Some((query, token)) => job(Command::Verify { token }, query, version),
         None => Question::WrongNumber,
     }
@@ -172,9 +213,9 @@ fn verify(version: Version, rest: Option<&str>) -> Question<'_>
 // What the providers of a host lack for a query.
 fn why(version: Version, rest: Option<&str>) -> Question<'_>
     ensures { asked_in result ≡ asks_about why version
-        (words_behind (option_map (λ t. t.now) rest.entry)) }
+        (query_words (option_map (λ t. t.now) rest.entry)) }
 {
-    match two_words(rest) {
+    match query_and_word(rest) {
         Some((query, host)) => job(Command::Why { host }, query, version),
         None => Question::WrongNumber,
     }
@@ -182,9 +223,9 @@ fn why(version: Version, rest: Option<&str>) -> Question<'_>
 
 // Placements of a query.
 fn fill(rest: Option<&str>) -> Question<'_>
-    ensures { asked_in result ≡ asks_fill (words_behind (option_map (λ t. t.now) rest.entry)) }
+    ensures { asked_in result ≡ asks_fill (query_words (option_map (λ t. t.now) rest.entry)) }
 {
-    match one_word(rest) {
+    match one_query(rest) {
         Some(query) => Question::Fill { query },
         None => Question::WrongNumber,
     }
@@ -192,9 +233,9 @@ fn fill(rest: Option<&str>) -> Question<'_>
 
 // A claim of what a token names.
 fn claim(rest: Option<&str>) -> Question<'_>
-    ensures { asked_in result ≡ asks_claim (words_behind (option_map (λ t. t.now) rest.entry)) }
+    ensures { asked_in result ≡ asks_claim (query_words (option_map (λ t. t.now) rest.entry)) }
 {
-    match two_words(rest) {
+    match query_and_word(rest) {
         Some((query, token)) => Question::Claim { query, token },
         None => Question::WrongNumber,
     }
@@ -202,18 +243,31 @@ fn claim(rest: Option<&str>) -> Question<'_>
 
 // A release of what a token names.
 fn release(rest: Option<&str>) -> Question<'_>
-    ensures { asked_in result ≡ asks_release (words_behind (option_map (λ t. t.now) rest.entry)) }
+    ensures { asked_in result ≡ asks_release (query_words (option_map (λ t. t.now) rest.entry)) }
 {
-    match two_words(rest) {
+    match query_and_word(rest) {
         Some((query, token)) => Question::Release { query, token },
         None => Question::WrongNumber,
     }
 }
 
-// What the words behind a name ask.
+// What is left, perhaps in a host's tree.
+fn left(rest: Option<&str>) -> Question<'_>
+    ensures { asked_in result ≡ asks_left (option_map (λ t. t.now) rest.entry) }
+{
+    if rest.is_none() {
+        return Question::Left { host: None };
+    }
+    match one_word(rest) {
+        Some(host) => Question::Left { host: Some(host) },
+        None => Question::WrongNumber,
+    }
+}
+
+// What is asked by a name, and by what stands behind it.
 fn question_by_name<'a>(version: Version, name: &str, rest: Option<&'a str>) -> Question<'a>
     ensures { asked_in result ≡ asked_by_name version name.now
-        (words_behind (option_map (λ t. t.now) rest.entry)) }
+        (option_map (λ t. t.now) rest.entry) }
 {
     match name {
         "check" => alone(job(Command::Check, "", Version::V136), rest),
@@ -233,10 +287,23 @@ fn question_by_name<'a>(version: Version, name: &str, rest: Option<&'a str>) -> 
             rest,
         ),
         "why" => why(version, rest),
+        "audit" => alone(job(Command::Audit { zone: None }, "", Version::V136), rest),
         "claim" => claim(rest),
         "release" => release(rest),
         "usages" => alone(Question::Usages, rest),
+        "left" => left(rest),
+        "help" => alone(Question::Help, rest),
         _ => Question::Unknown,
+    }
+}
+
+// Whether a line has no bytes, or is a comment.
+fn is_passed_over(line: &[u8]) -> bool
+    ensures { result ≡ is_passed_over line.now }
+{
+    match line.first() {
+        Some(first) => *first == b'#',
+        None => true,
     }
 }
 
@@ -244,7 +311,7 @@ fn question_by_name<'a>(version: Version, name: &str, rest: Option<&'a str>) -> 
 pub fn read_question(line: &[u8], version: Version) -> Question<'_>
     ensures { asked_in result ≡ asked_of version line.now }
 {
-    if line.is_empty() {
+    if is_passed_over(line) {
         return Question::Nothing;
     }
     match std::str::from_utf8(line) {

@@ -18,6 +18,8 @@ ghost use Rattle.ac_run.specs.Tasks.{task_of};
 ghost use Rattle.ac_search.specs.Shown.Walk.{MayStop};
 ghost use Rattle.ac_session.specs.Questions.{asked_in};
 ghost use Rattle.ac_session.specs.Standing.{Gives, IsRefusal, TakesTurn};
+ghost use Rattle.ac_session.specs.Helps.{help_text};
+ghost use Rattle.ac_session.specs.LeftRows.{left_answer};
 ghost use Rattle.ac_session.specs.Lines.{Given};
 ghost use Rattle.ac_session.specs.Reading.{given_by};
 ghost use Rattle.ac_session.specs.Tries.{AskedMayStop, FillMayStop, GivenMayStop, JobMayStop};
@@ -26,6 +28,8 @@ ghost use Rattle.ac_session.specs.UsageRows.{usage_rows};
 ghost use Rattle.ac_session.specs.declared.endings.AnswerFault.TheVariants as AnswerFault;
 
 use crate::endings::{AnswerFault, Ending, broken_off, given, refused, write_said};
+use crate::help::push_help;
+use crate::left::write_left;
 use crate::line_faults::LineFault;
 use crate::lines::Next;
 use crate::questions::{Question, read_question};
@@ -262,6 +266,50 @@ fn answer_usages<W: Sink>(alloc: Global, cloud: &Cloud, out: &mut W) -> Result<E
     given(write_usages(alloc, cloud, out))
 }
 
+// What is left of the providers of a host's tree.
+#[tactic(auto, using(ac_run::proofs::HostFound::host_within), unfolding(crate::specs::LeftRows::left_answer))]
+fn answer_left_at<W: Sink>(
+    alloc: Global,
+    cloud: &Cloud,
+    host: &str,
+    out: &mut W,
+) -> Result<Ending, AnswerFault>
+    ensures { Gives ⊥ (Some (left_answer (providers_of cloud.now) (Some host.now))) result
+        (W.taken out.old) (W.taken out.new) (W.failures out.old) (W.failures out.new) }
+{
+    match cloud.host(host.as_bytes()) {
+        Ok(ix) => given(write_left(alloc, cloud, Some(cloud.root(ix)), out)),
+        Err(fault) => refused(AskRefusal::Host(fault)),
+    }
+}
+
+// What is left, of all providers or of those of a host's tree.
+#[tactic(auto, unfolding(crate::specs::LeftRows::left_answer))]
+fn answer_left<W: Sink>(
+    alloc: Global,
+    cloud: &Cloud,
+    host: Option<&str>,
+    out: &mut W,
+) -> Result<Ending, AnswerFault>
+    ensures { Gives ⊥ (Some (left_answer (providers_of cloud.now)
+        (option_map (λ t. t.now) host.entry))) result
+        (W.taken out.old) (W.taken out.new) (W.failures out.old) (W.failures out.new) }
+{
+    match host {
+        Some(host) => answer_left_at(alloc, cloud, host, out),
+        None => given(write_left(alloc, cloud, None, out)),
+    }
+}
+
+// What may be asked.
+fn answer_help<W: Sink>(out: &mut W) -> Result<Ending, AnswerFault>
+    ensures { Gives ⊥ (Some (written help_text 0)) result
+        (W.taken out.old) (W.taken out.new) (W.failures out.old) (W.failures out.new) }
+{
+    push_help(out)?;
+    Ok(Ending::Given(0))
+}
+
 // Answers a question, and changes the cloud where it is a claim, a release or placements.
 fn answer_question<W: Sink>(
     alloc: Global,
@@ -285,6 +333,8 @@ fn answer_question<W: Sink>(
             answer_release(alloc, cloud, version, query, token, out)
         }
         Question::Usages => answer_usages(alloc, cloud, out),
+        Question::Left { host } => answer_left(alloc, cloud, host, out),
+        Question::Help => answer_help(out),
         Question::Nothing => Ok(Ending::Unasked),
         Question::Unknown => Ok(Ending::Faulted(LineFault::UnknownCommand)),
         Question::WrongNumber => Ok(Ending::Faulted(LineFault::WrongNumber)),

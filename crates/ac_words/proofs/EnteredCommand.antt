@@ -16,7 +16,7 @@ use Rattle.clap.specs.Walk.{Row, Rule, Text, answers_to, finished, is_empty, not
 use Rattle.clap.proofs.SimpleLemmas.{is_nil}
 use Rattle.clap.proofs.OnLiterals.{clap_on_literals}
 use Rattle.ac_run.specs.Tasks.{Command, verify, why}
-use Rattle.ac_words.specs.Mark.{past_mark}
+use Rattle.ac_run.specs.Wanted.Mark.{past_mark}
 use Rattle.ac_words.specs.Names.{name_read}
 use Rattle.ac_words.specs.Words.{asking, call_of, command_found, is_complete, job, named, plan, program}
 use Rattle.ac_words.specs.declared.name.Name.{Name}
@@ -106,6 +106,7 @@ needs_words name.Check s = true
 needs_words name.Verify s = needs (codes "query") s && needs (codes "token") s
 needs_words name.Why s = needs (codes "query") s && needs (codes "host") s
 needs_words name.Capacity s = needs (codes "flavors") s
+needs_words name.Audit s = true
 needs_words name.Session s = true
 needs_words _ s = needs (codes "query") s
 
@@ -144,9 +145,9 @@ module _ (s : Shape) (words : List Text) (kept : list_all asks_or_takes s.rules 
       by_word (Some word) h asked = asked word
       by_word None h asked = h
 
-  flavors-given : (o : Option Text) → is_some o ≡ true → is_some (option_map plan o) ≡ true
-  flavors-given (Some text) h = refl
-  flavors-given None h = h
+  flavors-given : (o : Option Text) (metrics : Bool) → is_some o ≡ true → is_some (option_map (λ path. plan path metrics) o) ≡ true
+  flavors-given (Some text) metrics h = refl
+  flavors-given None metrics h = h
 
   words-given : (name : Name) → needs_words name s ≡ true → is_some (call_of name rows) ≡ true
   unfolding call_of
@@ -159,7 +160,8 @@ module _ (s : Shape) (words : List Text) (kept : list_all asks_or_takes s.rules 
   words-given name.Explain n = query-given _ n
   words-given name.Hosts n = query-given _ n
   words-given name.Why n = both-given (codes "host") why n
-  words-given name.Capacity n = flavors-given (first_of (codes "flavors") rows) (level-entry s words (codes "flavors") kept n e)
+  words-given name.Audit n = refl
+  words-given name.Capacity n = flavors-given (first_of (codes "flavors") rows) _ (level-entry s words (codes "flavors") kept n e)
   words-given name.Session n = refl
 
 level-complete : (s : Shape) (words : List Text) → is_served s ≡ true → level_fault s [] nothing_held words false [] ≡ []

@@ -1,4 +1,5 @@
 pub mod EnteredCommand
+pub mod Faulted
 pub mod FilledRows
 pub mod FilledWalk
 pub mod Marks

@@ -1,4 +1,3 @@
-pub mod Mark
 pub mod Names
 pub mod Words
 pub mod Laws

@@ -14,12 +14,12 @@ use Rattle.clap.specs.declared.error.kind.ErrorKind.TheVariants.{ArgumentConflic
 use Rattle.ac_base.specs.Texts.{count_value, id_value}
 use Rattle.ac_query.specs.declared.version.Version.{Version}
 use Rattle.ac_query.specs.declared.version.Version.TheVariants.{V136, V139}
-use Rattle.ac_run.specs.Tasks.{Command, Paths, Task, check, candidates, tokens, list, fill, verify, explain, hosts, why, capacity, command_shown}
+use Rattle.ac_run.specs.Tasks.{Command, Paths, Task, check, candidates, tokens, list, fill, verify, explain, hosts, why, capacity, audit, command_shown}
 use Rattle.ac_tables.specs.Tables.Names.{table_name}
 use Rattle.ac_tables.specs.declared.fault.Table.{Table}
 use Rattle.ac_tables.specs.declared.fault.Table.TheVariants.{Providers, Inventories, Usages, Traits, Aggregates}
 use Rattle.ac_tables.specs.declared.read.FiveTables.{FiveTables}
-use Rattle.ac_words.specs.Mark.{past_mark}
+use Rattle.ac_run.specs.Wanted.Mark.{past_mark}
 use Rattle.ac_words.specs.Names.{name_read}
 use Rattle.ac_words.specs.declared.name.Name.{Name}
 use Rattle.ac_words.specs.declared.name.Name.TheVariants as name
@@ -102,7 +102,10 @@ why_app = with_tries (with_rule (query_app (codes "why")) (word_rule (codes "hos
 
 -- a command with a table of flavors
 abbrev pub capacity_app : App
-capacity_app = with_tries (with_rule (new_app (codes "capacity")) (word_rule (codes "flavors")))
+capacity_app = with_rule (with_tries (with_rule (new_app (codes "capacity")) (word_rule (codes "flavors")))) (flag_rule (codes "prometheus"))
+
+abbrev pub audit_app : App
+audit_app = with_rule (with_common (new_app (codes "audit"))) (option_rule (codes "zone"))
 
 -- a session, which reads its queries later
 abbrev pub session_app : App
@@ -120,6 +123,7 @@ app_for name.Explain = explain_app
 app_for name.Hosts = hosts_app
 app_for name.Why = why_app
 app_for name.Capacity = capacity_app
+app_for name.Audit = audit_app
 app_for name.Session = session_app
 
 -- what has a version, and needs one of its own commands
@@ -128,9 +132,9 @@ as_program app = record app { top = record app.top { has_version = true; subcomm
 
 abbrev pub program : App
 program =
-    with_subcommand (with_subcommand (with_subcommand (with_subcommand (with_subcommand (with_subcommand (with_subcommand (with_subcommand
+    with_subcommand (with_subcommand (with_subcommand (with_subcommand (with_subcommand (with_subcommand (with_subcommand (with_subcommand (with_subcommand
     (with_subcommand (with_subcommand (with_subcommand (as_program (new_app (codes "ac_cli"))) check_app.top) candidates_app.top) tokens_app.top) list_app.top)
-    fill_app.top) verify_app.top) explain_app.top) hosts_app.top) why_app.top) capacity_app.top) session_app.top
+    fill_app.top) verify_app.top) explain_app.top) hosts_app.top) why_app.top) capacity_app.top) audit_app.top) session_app.top
 
 -- ---- what it states of the words
 
@@ -184,26 +188,30 @@ tries_kinds None = InvalidValue ∷ []
 tries_kinds (Some tries) = []
 
 -- the aggregate that a text names; without it, none is named
-abbrev pub within_named : Option Text → Option (Option ℕ)
-within_named None = Some None
-within_named (Some text) = option_map Some (id_value text)
+abbrev pub aggregate_named : Option Text → Option (Option ℕ)
+aggregate_named None = Some None
+aggregate_named (Some text) = option_map Some (id_value text)
 
--- the aggregate whose roots are told
-abbrev pub within_of : List Row → Option (Option ℕ)
-within_of rows = within_named (first_of (codes "in") rows)
+-- the aggregate of an option: that whose roots are told, and the zone of hosts
+abbrev pub aggregate_of : Text → List Row → Option (Option ℕ)
+aggregate_of option rows = aggregate_named (first_of option rows)
 
--- that aggregate, if one is named
+-- the aggregate whose roots are told, if one is named
 abbrev pub within_in : List Row → Option ℕ
-within_in rows = option_flatten (within_of rows)
+within_in rows = option_flatten (aggregate_of (codes "in") rows)
 
 -- what is no UUID is a value that isn't valid
-abbrev pub within_kinds : Option (Option ℕ) → Kinds
-within_kinds None = InvalidValue ∷ []
-within_kinds (Some within) = []
+abbrev pub aggregate_kinds : Option (Option ℕ) → Kinds
+aggregate_kinds None = InvalidValue ∷ []
+aggregate_kinds (Some aggregate) = []
 
--- the fault of the tries, and of the aggregate
+-- the fault of the aggregates
+abbrev pub aggregates_kinds : List Row → Kinds
+aggregates_kinds rows = or_else (aggregate_kinds (aggregate_of (codes "in") rows)) (aggregate_kinds (aggregate_of (codes "zone") rows))
+
+-- the fault of the tries, and of the aggregates
 abbrev pub option_kinds : List Row → Kinds
-option_kinds rows = or_else (tries_kinds (tries_of rows)) (within_kinds (within_of rows))
+option_kinds rows = or_else (tries_kinds (tries_of rows)) (aggregates_kinds rows)
 
 -- what the option of a table says
 abbrev pub option_of : List Row → Table → Option Text
@@ -226,12 +234,12 @@ table_kinds rows =
     if is_some (folder_of rows) then (if list_any (has_option rows) all_tables then ArgumentConflict ∷ [] else [])
     else (if has_option rows Providers && has_option rows Inventories then [] else MissingRequiredArgument ∷ [])
 
--- the fault of the version, the tries, the aggregate and the tables that are named with a command
+-- the fault of the version, the tries, the aggregates and the tables that are named with a command
 abbrev pub own_faults : Option (Name × List Row) → Kinds
 own_faults None = []
 own_faults (Some p) = or_else (version_kinds (version_of p.1)) (or_else (option_kinds p.1) (table_kinds p.1))
 
--- `clap` refuses them for want of memory alone, and their version, tries, aggregate and tables have no fault
+-- `clap` refuses them for want of memory alone, and their version, tries, aggregates and tables have no fault
 unfoldable pub is_taken : List Text → Bool
 is_taken words = takes program words && is_empty (own_faults (named words))
 
@@ -241,11 +249,11 @@ faults words = or_else (fault_of program words) (own_faults (named words))
 
 -- ---- what is made of it
 
--- what the words of a command line call for: a command with its query, which is empty for a check; the table of flavors at a path; or a session, whose
--- questions are read later
+-- what the words of a command line call for: a command with its query, which is empty where it asks for none; the table of flavors at a path, as rows or as
+-- metrics; or a session, whose questions are read later
 pub data Call : Type 0 where
   job : Command → Text → Call
-  plan : Text → Call
+  plan : Text → Bool → Call
   session : Call
 
 -- what the words of a command line say
@@ -258,7 +266,7 @@ pub record Line : Type 0 where
 
 -- the path of the table of flavors, where they ask for one
 abbrev pub flavors_called : Call → Option Text
-flavors_called (plan path) = Some path
+flavors_called (plan path metrics) = Some path
 flavors_called _ = None
 
 -- the task that they ask for, with this text of the table of flavors, and with these paths where more is told; none where they ask for a session
@@ -266,7 +274,7 @@ abbrev pub task_in : Line → Text → Option Paths → Option Task
 task_in line flavors detail = task_called line.call
   where
     task_called : Call → Option Task
-    task_called (plan path) = Some (record { command = capacity flavors; query = []; version = line.version; tries = line.tries; detail = detail })
+    task_called (plan path metrics) = Some (record { command = capacity flavors metrics; query = []; version = line.version; tries = line.tries; detail = detail })
     task_called (job command query) = Some (record { command = command; query = query; version = line.version; tries = line.tries; detail = detail })
     task_called session = None
 
@@ -297,7 +305,8 @@ call_of name.Verify rows = option_and_then (λ token. asking rows (verify token)
 call_of name.Explain rows = asking rows explain
 call_of name.Hosts rows = asking rows (hosts (sum_of rows) (within_in rows))
 call_of name.Why rows = option_and_then (λ host. asking rows (why host)) (first_of (codes "host") rows)
-call_of name.Capacity rows = option_map plan (first_of (codes "flavors") rows)
+call_of name.Capacity rows = option_map (λ path. plan path (is_set (first_of (codes "prometheus") rows))) (first_of (codes "flavors") rows)
+call_of name.Audit rows = Some (job (audit (first_of (codes "zone") rows)) [])
 call_of name.Session rows = Some session
 
 -- whether more is said: what to do about a fault, and of what a rule is broken; every command may be asked
@@ -366,7 +375,7 @@ Tells kinds NoMemory = ⊤
 
 abbrev pub call_shown : rust.Call → Call
 call_shown (variant.Job command query) = job (command_shown command) query.now
-call_shown (variant.Plan flavors) = plan flavors.now
+call_shown (variant.Plan flavors metrics) = plan flavors.now metrics
 call_shown variant.Session = session
 
 abbrev pub paths_kept : FiveTables (String Global) → Paths

@@ -2,9 +2,7 @@
 #![tactic(auto)]
 
 pub mod laws;
-pub mod mark;
 pub mod name;
 pub mod words;
 
-pub use mark::past_mark;
 pub use words::{WordFault, Words, read_words};

@@ -15,10 +15,11 @@ pub enum Name {
     Hosts,
     Why,
     Capacity,
+    Audit,
     Session,
 }
 
-const ALL_NAMES: [Name; 11] = [
+const ALL_NAMES: [Name; 12] = [
     Name::Check,
     Name::Candidates,
     Name::Tokens,
@@ -29,6 +30,7 @@ const ALL_NAMES: [Name; 11] = [
     Name::Hosts,
     Name::Why,
     Name::Capacity,
+    Name::Audit,
     Name::Session,
 ];
 
@@ -48,6 +50,7 @@ impl Name {
             Name::Hosts => "hosts",
             Name::Why => "why",
             Name::Capacity => "capacity",
+            Name::Audit => "audit",
             Name::Session => "session",
         }
     }

@@ -23,8 +23,8 @@ use std::marker::Model;
 enum Call<'a> {
     // A command, with its query.
     Job(Command<'a>, &'a str),
-    // The table of flavors at a path.
-    Plan(&'a str),
+    // The table of flavors at a path, and whether metrics are written of it.
+    Plan(&'a str, bool),
     // A session, whose questions are read later.
     Session,
 }
@@ -60,7 +60,7 @@ impl<'a> Words<'a> {
     {
         let (command, query) = match self.call {
             Call::Job(command, query) => (command, query),
-            Call::Plan(_) => (Command::Capacity { flavors }, ""),
+            Call::Plan(_, metrics) => (Command::Capacity { flavors, metrics }, ""),
             Call::Session => return None,
         };
         Some(Job {
@@ -77,7 +77,7 @@ impl<'a> Words<'a> {
         ensures { option_map (λ path. path.now) result ≡ flavors_called self.now.call }
     {
         match self.call {
-            Call::Plan(path) => Some(path),
+            Call::Plan(path, _) => Some(path),
             _ => None,
         }
     }

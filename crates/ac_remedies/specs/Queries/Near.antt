@@ -1,7 +1,7 @@
 -- Which parameter is meant by a name that is none.
-use Rattle.std.specs.Prelude.{ℕ, ◌||◌, List, ◌++◌, map, codes, Option, Some, None, if◌then◌else◌}
+use Rattle.std.specs.Prelude.{ℕ, ◌||◌, Bool, nat_eq, List, ◌++◌, map, codes, Option, Some, None, if◌then◌else◌}
 use Rattle.std.specs.Char.{is_ascii_alphabetic, to_ascii_lowercase}
-use Rattle.std.specs.List.{filter}
+use Rattle.std.specs.List.{filter, starts_with}
 use Rattle.std.specs.Str.{bytes_eq}
 
 -- the letters of a name, as small ones; all else is left out
@@ -30,5 +30,12 @@ unfoldable pub meant : Option (List ℕ) → List ℕ
 meant (Some parameter) = codes "no parameter; " ++ (parameter ++ codes "?")
 meant None = codes "no parameter; there are resources, required, member_of, in_tree, root_required, group_policy, same_subtree and limit"
 
+-- a name behind `&` as HTML writes it
+abbrev pub is_behind_entity : List ℕ → Bool
+is_behind_entity name = starts_with nat_eq name (codes "amp;")
+
+unfoldable pub entity_remedy : List ℕ
+entity_remedy = codes "the log wrote &amp; for &: put & in its place"
+
 abbrev pub near_remedy : List ℕ → List ℕ
-near_remedy name = meant (near name)
+near_remedy name = if is_behind_entity name then entity_remedy else meant (near name)

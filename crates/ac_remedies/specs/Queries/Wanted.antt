@@ -1,7 +1,7 @@
 -- What is wanted of the value of a parameter.
-use Rattle.std.specs.Prelude.{ℕ, Bool, ◌&&◌, nat_eq, nat_le, List, [], ◌∷◌, find, length, map, codes, Option, Some, None, unwrap_or, if◌then◌else◌}
+use Rattle.std.specs.Prelude.{ℕ, Bool, ◌&&◌, nat_eq, nat_le, List, [], ◌∷◌, drop, find, length, map, codes, Option, Some, None, unwrap_or, if◌then◌else◌}
 use Rattle.std.specs.Char.{to_ascii_uppercase}
-use Rattle.std.specs.List.{filter_map, list_all, starts_with}
+use Rattle.std.specs.List.{filter_map, list_all, list_any, range_with_len, starts_with}
 use Rattle.ac_base.specs.Texts.{is_name}
 use Rattle.ac_query.specs.declared.version.Version.{Version}
 use Rattle.ac_query.specs.Texts.{behind, has_text, items_of}
@@ -71,8 +71,15 @@ value_remedy version value form.Traits = if is_list value then list_remedy versi
 value_remedy version value form.RootTraits = if is_list value then codes "root_required has no in: and asks for all its traits" else traits_remedy value
 value_remedy version value f = wanted f
 
+-- a value has `&` as JSON writes it
+abbrev pub has_escape : List ℕ → Bool
+has_escape value = list_any (λ at. starts_with nat_eq (drop at value) (codes "\\u0026")) (range_with_len 0 (length value))
+
+unfoldable pub escape_remedy : List ℕ
+escape_remedy = codes "the log wrote \\u0026 for &: put & in its place"
+
 unfoldable pub bad_value_remedy : Version → List ℕ → List ℕ → List ℕ
-bad_value_remedy version name value = value_remedy version value (form_of name)
+bad_value_remedy version name value = if has_escape value then escape_remedy else value_remedy version value (form_of name)
 
 -- ---- a parameter that is given again
 

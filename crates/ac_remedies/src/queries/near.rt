@@ -2,7 +2,7 @@
 ghost use Rattle.std.specs.Prelude.{◌≡◌, IfOk, string_bytes};
 ghost use Rattle.std.specs.Option.{option_map};
 ghost use Rattle.std.specs.Str.{bytes_eq};
-ghost use Rattle.ac_remedies.specs.Queries.Near.{letters_of, near_remedy, parameter_of};
+ghost use Rattle.ac_remedies.specs.Queries.Near.{letters_of, meant, near, near_remedy, parameter_of};
 
 use std::alloc::{AllocError, Global};
 
@@ -50,10 +50,10 @@ fn parameter_of(letters: &[u8]) -> Option<&'static str>
     }
 }
 
-/// What is said of a name that is no parameter.
+// The parameter that is meant by a name, or all of them.
 #[tactic(auto, unfolding(crate::specs::Queries::Near::meant))]
-pub(crate) fn near_remedy(alloc: Global, name: &str) -> Result<String, AllocError>
-    ensures { IfOk result (λ text. string_bytes text ≡ near_remedy name.now) }
+fn meant(alloc: Global, name: &str) -> Result<String, AllocError>
+    ensures { IfOk result (λ text. string_bytes text ≡ meant (near name.now)) }
 {
     let letters = letters_of(alloc, name)?;
     match parameter_of(letters.as_slice()) {
@@ -62,5 +62,17 @@ pub(crate) fn near_remedy(alloc: Global, name: &str) -> Result<String, AllocErro
             alloc,
             "no parameter; there are resources, required, member_of, in_tree, root_required, group_policy, same_subtree and limit",
         ),
+    }
+}
+
+/// What is said of a name that is no parameter.
+#[tactic(auto, unfolding(crate::specs::Queries::Near::entity_remedy))]
+pub(crate) fn near_remedy(alloc: Global, name: &str) -> Result<String, AllocError>
+    ensures { IfOk result (λ text. string_bytes text ≡ near_remedy name.now) }
+{
+    if name.starts_with("amp;") {
+        String::from_str(alloc, "the log wrote &amp; for &: put & in its place")
+    } else {
+        meant(alloc, name)
     }
 }

@@ -1,6 +1,6 @@
 //! What is wanted of the value of a parameter.
 ghost use Rattle.std.specs.Prelude.{◌≡◌, IfOk};
-ghost use Rattle.ac_remedies.specs.Queries.Wanted.{bad_value_remedy, form_of, is_list, list_remedy, once, repeated_remedy, traits_remedy, wanted};
+ghost use Rattle.ac_remedies.specs.Queries.Wanted.{bad_value_remedy, form_of, has_escape, is_list, list_remedy, once, repeated_remedy, traits_remedy, wanted};
 
 use crate::queries::traits::proposed;
 use crate::quoted::push_all;
@@ -96,8 +96,21 @@ fn traits_remedy(alloc: Global, value: &str) -> Result<Vec<u8>, AllocError>
     Ok(text)
 }
 
+// Whether a value has `&` as JSON writes it.
+#[tactic(auto, using(ac_cloud::proofs::Ranges::range_more, ac_cloud::proofs::Ranges::range_end))]
+fn has_escape(value: &[u8]) -> bool
+    ensures { result ≡ has_escape value.now }
+{
+    for at in 0..value.len() {
+        if value[at..].starts_with(b"\\u0026") {
+            return true;
+        }
+    }
+    false
+}
+
 /// What is said of a value that hasn't the form of its parameter.
-#[tactic(auto, unfolding(crate::specs::Queries::Wanted::bad_value_remedy))]
+#[tactic(auto, unfolding(crate::specs::Queries::Wanted::bad_value_remedy, crate::specs::Queries::Wanted::escape_remedy))]
 pub(crate) fn bad_value_remedy(
     alloc: Global,
     version: Version,
@@ -106,6 +119,9 @@ pub(crate) fn bad_value_remedy(
 ) -> Result<Vec<u8>, AllocError>
     ensures { IfOk result (λ text. text.items ≡ bad_value_remedy version name.now value.now) }
 {
+    if has_escape(value.as_bytes()) {
+        return b"the log wrote \\u0026 for &: put & in its place".to_vec(alloc);
+    }
     let form = form_of(name.as_bytes());
     match form {
         Form::Traits if is_list(value.as_bytes()) => list_remedy(version).to_vec(alloc),

@@ -21,7 +21,7 @@ module _ {X : Type 0} (f : ℕ → X) (t : ℕ → Bool) (xs : List ℕ) (i : �
 
 -- ---- the pieces
 
-pub header_is : header_text ≡ codes "#,allocation,resource provider,name,inventory used/capacity,traits\n"
+pub header_is : header_text ≡ codes "#,allocation,resource provider,inventory used/capacity,traits,name\n"
 unfolding fields_text is_blank
 header_is = refl
 

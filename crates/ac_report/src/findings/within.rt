@@ -1,25 +1,15 @@
 //! Which roots are told: all, or those of an aggregate.
 ghost use Rattle.std.specs.Prelude.{◌≡◌, ◌<◌, ◌^◌, ◌&&◌, IfOk, None, Some, false, length, map, slice_index_or};
 ghost use Rattle.std.specs.List.{All, range_with_len};
-ghost use Rattle.ac_cloud.specs.Providers.{provider_of};
 ghost use Rattle.ac_cloud.specs.World.{id_at, is_member, is_root};
 ghost use Rattle.ac_cloud.specs.Cloud.CloudWorld.{providers_of};
 ghost use Rattle.ac_report.specs.Findings.HostRows.{is_within, members_of, roots_within};
 
 use crate::page::mark_roots;
 use ac_base::NoMemory;
-use ac_cloud::{Cloud, Provider};
+use ac_cloud::Cloud;
+use ac_find::is_member;
 use std::alloc::Global;
-
-// Whether a provider is a member of an aggregate, which is named by its UUID as a number.
-fn is_member(provider: &Provider, aggregate: u128) -> bool
-    ensures { result ≡ is_member (provider_of provider.now) aggregate }
-{
-    provider
-        .aggregates()
-        .iter()
-        .any(|id| id.as_u128() == aggregate)
-}
 
 // The providers that are members of an aggregate.
 fn members_of(alloc: Global, cloud: &Cloud, aggregate: u128) -> Result<Vec<u32>, NoMemory>

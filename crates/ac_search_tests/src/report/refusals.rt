@@ -28,7 +28,7 @@ fn check_writer(rt: &(impl Abort + AllocGlobal), writer: Writer, lists: &[&[u32]
 #[test]
 fn writers(rt: HostRuntime) {
     let rows =
-        "#,allocation,resource provider,name,inventory used/capacity,traits\n1,VCPU=2,@01,,VCPU=0/8,\n2,VCPU=2,@01,,VCPU=0/8,\n";
+        "#,allocation,resource provider,inventory used/capacity,traits,name\n1,VCPU=2,@01,VCPU=0/8,,\n2,VCPU=2,@01,VCPU=0/8,,\n";
     check_writer(&rt, Writer::Page, &[&[0]], BODY);
     check_writer(&rt, Writer::Tokens, &[&[0], &[0]], "@01\n@01\n");
     check_writer(&rt, Writer::List, &[&[0], &[0]], rows);

@@ -16,7 +16,7 @@ use Rattle.ac_rules.specs.Claims.{claimed, released}
 use Rattle.ac_rules.specs.Placed.{Placed, assigned}
 use Rattle.ac_session.specs.Laws.{providers_behind}
 use Rattle.ac_session.specs.Lines.{Given, line, too_long, end}
-use Rattle.ac_session.specs.Questions.{Asked, asked_of, claim, fill, job, nothing, release, unknown, usages, wrong_number}
+use Rattle.ac_session.specs.Questions.{Asked, asked_of, claim, fill, help, job, left_at, nothing, release, unknown, usages, wrong_number}
 use Rattle.ac_session.specs.Turns.{after_fill, claim_turn, fill_turn, release_turn, turn_asked, turn_of, world_after}
 use Rattle.ac_tables.specs.Tables.{Tables, aggregates_of, amounts_of, gathered, ids_of, inventories_of, names_of, with_used, world_stated}
 use Rattle.ac_tables.specs.Tables.AggregateTable.{aggregates_said}
@@ -120,6 +120,8 @@ module _ (t : Tables) (ids : List ℕ) where
   asked_stated version world (claim query token) h = after_stated 0 world _ _ h (claimed_stated world.providers _ h)
   asked_stated version world (release query token) h = after_stated 0 world _ _ h (released_stated world.providers _ h)
   asked_stated version world usages h = h
+  asked_stated version world (left_at host) h = h
+  asked_stated version world help h = h
   asked_stated version world nothing h = h
   asked_stated version world unknown h = h
   asked_stated version world wrong_number h = h

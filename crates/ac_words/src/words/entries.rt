@@ -2,15 +2,14 @@
 ghost use Rattle.std.specs.Prelude.{◌≡◌, ◌∷◌, IfErr, IfOk, OnOk, Some, [], option_map, true};
 ghost use Rattle.ac_run.specs.Tasks.{command_shown};
 ghost use Rattle.clap.specs.Words.{first_of, found_of, rows_of, subcommand_rows_of};
-ghost use Rattle.ac_words.specs.Words.{IsMadeOf, Says, Tells, asking, call_of, call_shown, command_found, is_complete, is_set, option_kinds, own_faults, tries_kinds, tries_named, tries_of, version_kinds, version_named, version_of, within_in, within_kinds, within_named, within_of};
+ghost use Rattle.ac_words.specs.Words.{IsMadeOf, Says, Tells, asking, call_of, call_shown, command_found, is_complete, is_set, option_kinds, own_faults, tries_kinds, tries_named, tries_of, version_kinds, version_named, version_of, within_in, aggregate_kinds, aggregate_named, aggregate_of, aggregates_kinds};
 
 use super::tables::paths;
 use super::{Call, WordFault, Words, fault_of, grammar};
-use crate::mark::past_mark;
 use crate::name::Name;
 use ac_base::{Id, read_count};
 use ac_query::Version;
-use ac_run::Command;
+use ac_run::{Command, past_mark};
 use clap::ArgMatches;
 use clap::error::ErrorKind;
 use std::alloc::{AllocError, Global};
@@ -40,8 +39,8 @@ fn asking<'a>(entries: &ArgMatches<'a>, command: Command<'a>) -> Option<Call<'a>
 }
 
 // The aggregate that a text names; without it, none is named.
-fn within_named(text: Option<&str>) -> Option<Option<u128>>
-    ensures { result ≡ within_named (option_map (λ t. t.now) text.entry) }
+fn aggregate_named(text: Option<&str>) -> Option<Option<u128>>
+    ensures { result ≡ aggregate_named (option_map (λ t. t.now) text.entry) }
 {
     match text {
         None => Some(None),
@@ -53,7 +52,7 @@ fn within_named(text: Option<&str>) -> Option<Option<u128>>
 fn within(entries: &ArgMatches<'_>) -> Option<u128>
     ensures { result ≡ within_in (rows_of (found_of entries.now)) }
 {
-    within_named(entry(entries, "in")).flatten()
+    aggregate_named(entry(entries, "in")).flatten()
 }
 
 // What the entries of a command call for; none where one that it needs isn't there.
@@ -86,7 +85,14 @@ fn call<'a>(name: Name, entries: &ArgMatches<'a>) -> Option<Call<'a>>
             let host = entry(entries, "host")?;
             asking(entries, Command::Why { host })
         }
-        Name::Capacity => Some(Call::Plan(entry(entries, "flavors")?)),
+        Name::Capacity => {
+            let metrics = is_set(entries, "prometheus");
+            Some(Call::Plan(entry(entries, "flavors")?, metrics))
+        }
+        Name::Audit => {
+            let zone = entry(entries, "zone");
+            Some(Call::Job(Command::Audit { zone }, ""))
+        }
         Name::Session => Some(Call::Session),
     }
 }
@@ -164,32 +170,48 @@ fn tries(alloc: Global, name: Name, entries: &ArgMatches<'_>) -> Result<Option<u
 }
 
 // Refuses what can't be the UUID of an aggregate.
-fn check_within(alloc: Global, name: Name, entries: &ArgMatches<'_>) -> Result<(), WordFault>
-    ensures ok { OnOk result (within_kinds (within_of (rows_of (found_of entries.now))) ≡ []) }
-    ensures fault { IfErr result (Tells (within_kinds
-        (within_of (rows_of (found_of entries.now))))) }
+fn check_aggregate(
+    alloc: Global,
+    name: Name,
+    entries: &ArgMatches<'_>,
+    option: &str,
+) -> Result<(), WordFault>
+    ensures ok { OnOk result (aggregate_kinds
+        (aggregate_of option.now (rows_of (found_of entries.now))) ≡ []) }
+    ensures fault { IfErr result (Tells (aggregate_kinds
+        (aggregate_of option.now (rows_of (found_of entries.now))))) }
 {
-    let text = entry(entries, "in");
-    match within_named(text) {
-        Some(_within) => Ok(()),
+    let text = entry(entries, option);
+    match aggregate_named(text) {
+        Some(_aggregate) => Ok(()),
         None => {
             let text = text.unwrap_or("");
             let message = format!(in alloc;
-                "invalid value '{text}' for '--in <UUID>': it is the UUID of an aggregate"
+                "invalid value '{text}' for '--{option} <UUID>': it is the UUID of an aggregate"
             )?;
             Err(refusal(alloc, name, ErrorKind::InvalidValue, message.as_str())?)
         }
     }
 }
 
-// How many tries a search may make, where the aggregate can be one too.
+// Refuses what can't be the UUIDs of aggregates.
+fn check_aggregates(alloc: Global, name: Name, entries: &ArgMatches<'_>) -> Result<(), WordFault>
+    ensures ok { OnOk result (aggregates_kinds (rows_of (found_of entries.now)) ≡ []) }
+    ensures fault { IfErr result (Tells (aggregates_kinds (rows_of (found_of entries.now)))) }
+{
+    check_aggregate(alloc, name, entries, "in")?;
+    check_aggregate(alloc, name, entries, "zone")?;
+    Ok(())
+}
+
+// How many tries a search may make, where the aggregates can be ones too.
 fn options(alloc: Global, name: Name, entries: &ArgMatches<'_>) -> Result<Option<u64>, WordFault>
     ensures tries { IfOk result (λ n. tries_of (rows_of (found_of entries.now)) ≡ Some n) }
     ensures ok { OnOk result (option_kinds (rows_of (found_of entries.now)) ≡ []) }
     ensures fault { IfErr result (Tells (option_kinds (rows_of (found_of entries.now)))) }
 {
     let tries = tries(alloc, name, entries)?;
-    check_within(alloc, name, entries)?;
+    check_aggregates(alloc, name, entries)?;
     Ok(tries)
 }
 

@@ -2,7 +2,7 @@
 ghost use Rattle.std.specs.Prelude.{◌≡◌, IfOk, false};
 ghost use Rattle.clap.specs.Words.{app_of, rule_of};
 ghost use Rattle.clap.specs.declared.builder.command.Command.TheViews.{out-Command as fields_of};
-ghost use Rattle.ac_words.specs.Words.{app_for, candidates_app, capacity_app, check_app, explain_app, fill_app, flag_rule, hosts_app, list_app, option_rule, program, query_app, search_app, session_app, shown_app, tokens_app, verify_app, why_app, with_common, with_options, with_tables, with_tries, word_rule};
+ghost use Rattle.ac_words.specs.Words.{app_for, audit_app, candidates_app, capacity_app, check_app, explain_app, fill_app, flag_rule, hosts_app, list_app, option_rule, program, query_app, search_app, session_app, shown_app, tokens_app, verify_app, why_app, with_common, with_options, with_tables, with_tries, word_rule};
 
 use super::help;
 use crate::name::Name;
@@ -380,7 +380,32 @@ fn capacity<'a>(alloc: Global) -> Result<Command<'a>, AllocError>
         "FLAVORS",
         "A table of flavors: the columns flavor and query, and wanted if it is there (CSV)",
     ))?;
-    add_tries(alloc, command)
+    let command = add_tries(alloc, command)?;
+    command.arg(flag(
+        alloc,
+        "prometheus",
+        "Writes the numbers as metrics, in the text format of Prometheus",
+    ))
+}
+
+fn audit<'a>(alloc: Global) -> Result<Command<'a>, AllocError>
+    ensures app { IfOk result (λ c. app_of c ≡ audit_app) }
+    ensures local { IfOk result (λ c. (fields_of c).has_globals ≡ false) }
+{
+    let command = Command::new(alloc, "audit")
+        .about("Writes what is amiss in the cloud, whatever is asked of it (CSV)")
+        .override_usage(
+            "ac_cli audit [OPTIONS] --tables <DIR>\n       \
+             ac_cli audit [OPTIONS] --providers <FILE> --inventories <FILE>",
+        )
+        .after_help(help::AUDIT);
+    let command = add_common(alloc, command)?;
+    command.arg(option(
+        alloc,
+        "zone",
+        "UUID",
+        "Also tells of each sharing provider that isn't in this aggregate, while hosts that it shares with are",
+    ))
 }
 
 fn session<'a>(alloc: Global) -> Result<Command<'a>, AllocError>
@@ -414,6 +439,7 @@ pub(super) fn command<'a>(alloc: Global, name: Name) -> Result<Command<'a>, Allo
         Name::Hosts => hosts(alloc),
         Name::Why => why(alloc),
         Name::Capacity => capacity(alloc),
+        Name::Audit => audit(alloc),
         Name::Session => session(alloc),
     }
 }
@@ -439,6 +465,7 @@ pub(super) fn program<'a>(alloc: Global) -> Result<Command<'a>, AllocError>
     let command = command.subcommand(hosts(alloc)?)?;
     let command = command.subcommand(why(alloc)?)?;
     let command = command.subcommand(capacity(alloc)?)?;
+    let command = command.subcommand(audit(alloc)?)?;
     let command = command.subcommand(session(alloc)?)?;
     Ok(command)
 }

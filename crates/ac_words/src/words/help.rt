@@ -43,7 +43,8 @@ macro_rules! searching {
 
 pub(super) const PROGRAM: &str = below!(
     "  0  the answer is written\n  1  `verify` says no; `fill`, `explain`, `hosts` or `why` finds no \
-     candidate; `fill` places fewer than `limit`, or `capacity` than are wanted\n",
+     candidate; `fill` places fewer than `limit`, or `capacity` than are wanted; `audit` finds \
+     something\n",
     "  3  a table was refused, or a table or the questions could not be read\n",
     "  4  the query or the table of flavors was refused\n  5  the token was refused, or the host names no provider\n",
     "  8  a search made as many tries as it may\n",
@@ -108,6 +109,12 @@ pub(super) const CAPACITY: &str = searching!(
     "  0  of each flavor as many can be placed as are wanted\n  1  of some fewer can\n",
     "  4  the table of flavors was refused, or could not be read\n",
     "  ac_cli capacity flavors.csv --tables cloud"
+);
+
+pub(super) const AUDIT: &str = below!(
+    "  0  nothing is amiss\n  1  something is\n",
+    "",
+    "  ac_cli audit --tables cloud"
 );
 
 pub(super) const SESSION: &str = below!(

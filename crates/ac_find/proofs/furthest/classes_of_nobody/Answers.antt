@@ -37,7 +37,7 @@ loop-class-preserved c =
     let old : slice_index_or c.deref_mut.result.now r None ≡ before r =
     ap (λ (xs : List (Option ℕ)). slice_index_or xs r None) (c.deref_mut.ensures.value ∙ c.loop-class.invariant) ∙ get_or-map-range_with_len before 0 n r r None low (omega arith) in
     let had : slice_index_or c.deref.result.now r false ≡ has r =
-    ap (λ (bs : List Bool). slice_index_or bs r false) (c.deref.ensures.value ∙ c.in_ok-had.ensures) ∙ get_or-map-range_with_len has 0 n r r false low (omega arith) in
+    ap (λ (bs : List Bool). slice_index_or bs r false) (c.deref.ensures.value ∙ c.in_ok-had.ensures ∙ ap (λ (class : List ℕ). map (λ (r : ℕ). somebody_there_has_class all r class) (range_with_len 0 n)) c.class.ensures) ∙ get_or-map-range_with_len has 0 n r r false low (omega arith) in
     c.note_class.ensures r (omega (arith, low, were, old_many))
     ∙ (ap₂ (λ (o : Option ℕ) (h : Bool). option_or o (if h then None else Some k)) old had
     ∙ class_more (test r) k (has r) (ap (λ (need : List ℕ × ℕ). not (somebody_there_has_class all r need.0)) is)))

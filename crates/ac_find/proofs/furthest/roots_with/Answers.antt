@@ -3,7 +3,7 @@ use Rattle.std.proofs.lemmas.List.{get_or-replicate, length-replicate, with_item
 use Rattle.std.proofs.lemmas.List.FromFn.{fill_by_all, get_or-map-range_with_len, length-map-range_with_len}
 use Rattle.ac_cloud.specs.World.{provider_at}
 use Rattle.ac_cloud.specs.Cloud.CloudWorld.{providers_of}
-use Rattle.ac_query.specs.Shown.Groups.{need_entry}
+use Rattle.ac_base.specs.Names.{class_bytes}
 use Rattle.ac_prune.specs.Ahead.{hosts_of}
 use Rattle.ac_prune.proofs.Roots.RootLemmas.{hosts_low}
 use Rattle.ac_find.specs.Explained.{has_inventory}
@@ -17,7 +17,7 @@ limit-requires-clause-rooms c = ap length (c.deref.ensures.value ∙ c.in_ok-roo
 pub returns : goal.returns
 returns c =
     let all = providers_of c.args.cloud.now in
-    let class = (need_entry c.args.need.now).0 in
+    let class = class_bytes c.args.class.now in
     let has = λ (p : ℕ). has_inventory (provider_at all p) class in
     let marks = c.limit.new.may in
     let rooms = c.deref.result.now in

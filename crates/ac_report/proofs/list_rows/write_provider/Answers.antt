@@ -26,8 +26,8 @@ returns c =
     let row = cells _ _ _ _ _ _ _ _ _ _ _ _ (c.as_bytes.ensures.value ∙ c.in_ok-number.ensures.ok)
     (c.as_bytes-2.ensures.value ∙ (c.in_ok-allocation.ensures ∙ ap (λ (ks : List (List ℕ)). joined_by_commas (map (amount_text xs ix) ks)) c.requires.classes))
     (c.text.ensures ∙ ap id_text (c.id.ensures ∙ sym (ids all c.args.listed.now.traits ix)))
-    (c.deref.ensures.value ∙ (c.in_ok-name.ensures ∙ ap shown_name (c.name.ensures ∙ sym (names all c.args.listed.now.traits ix))))
     (c.as_bytes-3.ensures.value ∙ (c.in_ok-inventory.ensures ∙ ap inventory_cell (c.entries.ensures ∙ sym (entries all c.args.listed.now.traits ix))))
-    (c.as_bytes-4.ensures.value ∙ (c.in_ok-traits.ensures ∙ ap traits_cell c.shown_traits.ensures)) in
+    (c.as_bytes-4.ensures.value ∙ (c.in_ok-traits.ensures ∙ ap traits_cell c.shown_traits.ensures))
+    (c.deref.ensures.value ∙ (c.in_ok-name.ensures ∙ ap shown_name (c.name.ensures ∙ sym (names all c.args.listed.now.traits ix)))) in
     subst (λ (fields : List (List ℕ)). IfOk c.write_row.result (λ x. (before : List (List (List ℕ))) → HasRows c.args.rows.now before → HasRows c.write_row.new.rows (before ++ fields ∷ [])))
     row c.write_row.ensures

@@ -8,6 +8,12 @@ returns-in-Job g c = rw c.in-Job.is (turn_same _ _ _ _ _ _ _ _ c.answer_job.ensu
 pub returns-in-Usages : goal.returns-in-Usages
 returns-in-Usages g c = rw c.in-Usages.is (turn_same _ _ _ _ _ _ _ _ c.answer_usages.ensures)
 
+pub returns-in-Left : goal.returns-in-Left
+returns-in-Left g c = rw c.in-Left.is (turn_same _ _ _ _ _ _ _ _ c.answer_left.ensures)
+
+pub returns-in-Help : goal.returns-in-Help
+returns-in-Help g c = rw c.in-Help.is (turn_same _ _ _ _ _ _ _ _ c.answer_help.ensures)
+
 pub returns-in-Nothing : goal.returns-in-Nothing
 returns-in-Nothing g c = rw c.in-Nothing.is (ends_so _ _ _ _ _ (λ e. cc) refl refl)
 

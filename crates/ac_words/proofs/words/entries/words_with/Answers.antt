@@ -1,20 +1,12 @@
-use Rattle.std.proofs.Common.{◌≡◌, [], ◌∷◌, Option, Some}
+use Rattle.std.proofs.Common.{◌≡◌, Option, Some}
 use Rattle.ac_base.proofs.Small.{handed_on}
 use Rattle.clap.specs.Kinds.{or_else}
 use Rattle.clap.specs.Words.{Kinds, found_of, rows_of}
 use Rattle.ac_query.specs.declared.version.Version.{Version}
 use Rattle.ac_words.specs.Words.{Tells, option_kinds, table_kinds, version_kinds, version_of}
 use Rattle.ac_words.specs.declared.words.WordFault.{WordFault}
-use Rattle.ac_words.specs.declared.words.WordFault.TheVariants as fault
+use Rattle.ac_words.proofs.Faulted.{tells_first}
 use Rattle.ac_words.proofs.words.entries.words_with.Goals as goal
-
--- what tells the first of two faults tells the first of three
-tells_first : (first behind : Kinds) (said : WordFault) → Tells first said → Tells (or_else first behind) said
-tells_first [] behind (fault.Help text) h = absurd h
-tells_first [] behind (fault.Version text) h = absurd h
-tells_first [] behind (fault.Refused text) h = absurd h.3
-tells_first [] behind fault.NoMemory h = tt
-tells_first (kind ∷ kinds) behind said h = h
 
 -- where the version has none
 tells_behind : (found : Option Version) (version : Version) (behind : Kinds) (said : WordFault) → found ≡ Some version → Tells behind said

@@ -1,0 +1,7 @@
+use Rattle.std.proofs.Common.{◌≡◌, ◌++◌, drop}
+use Rattle.std.specs.List.{flat_map}
+use Rattle.ac_run.proofs.capacity.metrics.add.Given as goal
+
+abbrev pub invariant-loop-piece : goal.invariant-loop-piece
+invariant-loop-piece l =
+    l.text.items ++ flat_map (λ piece. piece.now) (drop l.piece-index l.pieces) ≡ l.fn.text.items ++ flat_map (λ piece. piece.now) l.pieces
