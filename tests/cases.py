@@ -62,9 +62,9 @@ def by(version):
     return [] if version is None else ['--microversion', version]
 
 
-def found(name, cloud, query, *answers, after=None, version=None):
+def found(name, cloud, query, *answers, after=None, at=None, version=None):
     """`tokens` must give these assignments."""
-    words = ['tokens', full(query), *([] if after is None else ['--after', full(after)]), *by(version)]
+    words = ['tokens', full(query), *([] if after is None else ['--after', full(after)]), *([] if at is None else ['--at', full(at)]), *by(version)]
     return Case(f'tokens: {name}', words, lines(*answers), tables=tables(cloud))
 
 
@@ -411,6 +411,23 @@ PAGES = [
     listed('after a token, counted from 1', SHARED, 'resources=DISK_GB:10,VCPU:1',
            ['1,VCPU=1,P3,VCPU=0/8,,', '1,DISK_GB=10,P9,DISK_GB=0/100,MISC_SHARES_VIA_AGGREGATE,'], '--after', 'P9,P1'),
     listed('none', SHARED, 'resources=VCPU:9', []),
+    listed('at a host, by a provider of its tree', SHARED, 'resources=DISK_GB:10,VCPU:1',
+           ['1,VCPU=1,P3,VCPU=0/8,,', '1,DISK_GB=10,P9,DISK_GB=0/100,MISC_SHARES_VIA_AGGREGATE,'], '--at', 'P4'),
+    listed('at a host with none', SHARED, 'resources=DISK_GB:10,VCPU:1', [], '--at', 'P9'),
+    *(found(f'at {host}: {name}', cloud, query, *answers, at=host, after=after) for name, cloud, query, host, after, answers in (
+        ('a shared disk, and a processor of the host', SHARED, 'resources=DISK_GB:10,VCPU:1', 'P1', None, ['P9,P1']),
+        ('the disk alone', SHARED, 'resources=DISK_GB:10', 'P3', None, ['P9']),
+        ('the disk alone, at its own', SHARED, 'resources=DISK_GB:10', 'P9', None, ['P9']),
+        ('behind a token of another host', SHARED, 'resources=DISK_GB:10,VCPU:1', 'P3', 'P9,P1', ['P9,P3']),
+        ('behind its last', SHARED, 'resources=DISK_GB:10,VCPU:1', 'P1', 'P9,P1', []),
+        ('the first two', CHILD, 'resources=VCPU:1&limit=1', 'P2', None, ['P1']),
+        ('a root that the query does not take', OLD, 'resources=VCPU:1&root_required=!CUSTOM_OLD', 'P2', None, []),
+        ('a root that it takes', OLD, 'resources=VCPU:1&root_required=!CUSTOM_OLD', 'P3', None, ['P3']))),
+    Case('tokens: at a host that is not there', ['tokens', 'resources=VCPU:1', '--at', 'nobody'], err='host: Unknown\n', status=5, tables=tables(ONE)),
+    Case('tokens: at a host, after a token that is none', ['tokens', 'resources=VCPU:1', '--at', 'nobody', '--after', 'x'], err='token: BadToken\n', status=5,
+         tables=tables(ONE)),
+    Case('tokens: at a host, in detail', ['tokens', 'resources=VCPU:1', '--at', 'nobody', '--detail'],
+         err='host: Unknown\n  "nobody": no provider has this UUID or this name: give one that is in the table of providers\n', status=5, tables=tables(ONE)),
     listed('a provider that serves two slots has one row, with the sum', ONE, 'resources1=VCPU:2&resources2=VCPU:3&group_policy=none', ['1,VCPU=5,P1,VCPU=0/8,,']),
     listed('two candidates that take the same', CHILD, FIVE_AND_FIVE,
            ['1,VCPU=5,P1,VCPU=0/8,,', '1,VCPU=5,P2,VCPU=0/8,,', '2,VCPU=5,P1,VCPU=0/8,,', '2,VCPU=5,P2,VCPU=0/8,,']),

@@ -133,6 +133,11 @@ def available(provider, root, cloud):
         other.root() is root and other.aggregates & provider.aggregates for other in cloud)
 
 
+def at_root(found, root, query, cloud):
+    """Those of some candidates that stand at a root: the query takes it, and each of their providers is available there."""
+    return [one for one in found if takes(root, query) and all(available(provider, root, cloud) for provider in one)]
+
+
 def broken_by_one(provider, suffix, needs, query, cloud):
     """Which of the first four rules a provider breaks in its slot."""
     group = query.groups[suffix]
@@ -912,6 +917,11 @@ def asked(name, chance, cloud, query, every, judged):
     yield Case(f'{name}: list', ['list', text, *version], full(list_rows(found, query, cloud)), tables=made)
     yield Case(f'{name}: list after a token, without traits', ['list', text + '&limit=2', *after, '--no-traits', *version],
                full(list_rows(later, query, cloud, False)), tables=made)
+    own, here = ['--at', full(host.name)], at_root(found, host.root(), query, cloud)
+    first = at_root([assignment for assignment, rule in zip(every[at + 1:], judged[at + 1:]) if not rule], host.root(), query, cloud)[:1]
+    yield Case(f'{name}: tokens at a host', ['tokens', text, *own, *version], lines(*map(names, here)), tables=made)
+    yield Case(f'{name}: candidates at a host', ['candidates', text, *own, *version], full(body(here, query, cloud)), tables=made)
+    yield Case(f'{name}: list at a host, after a token', ['list', text + '&limit=1', *own, *after, *version], full(list_rows(first, query, cloud)), tables=made)
     placed, (most, short) = filled(query, cloud), bound(found, query, cloud)
     if len(every) <= 30 and not len(placed) <= longest(query, cloud, {}) <= most:
         raise ValueError(f'{name}: {len(placed)} placements by first fit, and at most {most}, are no bounds')

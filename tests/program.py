@@ -141,6 +141,8 @@ WORDS = [
     refused('a token for list', over(['list', 'resources=VCPU:2', ONE_HOST.strip()])),
     refused('no query for fill', over(['fill'])),
     refused('a token for fill', over(['fill', 'resources=VCPU:2', ONE_HOST.strip()])),
+    *(refused(f'--at for {words[0]}', over([*words, '--at', ONE_HOST.strip()]), '--at') for words in (
+        ['fill', 'resources=VCPU:2'], ['explain', 'resources=VCPU:2'], ['hosts', 'resources=VCPU:2'], ['why', 'resources=VCPU:2', ONE_HOST.strip()], ['session'])),
     refused('--after for fill', over(['fill', 'resources=VCPU:2', '--after', ONE_HOST.strip()]), '--after'),
     refused('--sum for tokens', over(['tokens', 'resources=VCPU:2', '--sum']), '--sum'),
     refused('--sum for why', over(['why', 'resources=VCPU:2', ONE_HOST.strip(), '--sum']), '--sum'),

@@ -24,9 +24,9 @@ import sys
 import tempfile
 
 sys.path.append(os.path.join(os.path.dirname(os.path.abspath(__file__)), 'documents'))
-from cases import CHILD, ONE, SOME, Case, full, lines, tables
+from cases import CHILD, ONE, SHARED, SOME, Case, full, lines, tables
 from log_lines import FOUND
-from model import (LEFT_HEADER, LIST_HEADER, RULES, body, bound, claim, draw_cloud, draw_query, explanation, filled, has_candidate, host_rows, judgement,
+from model import (LEFT_HEADER, LIST_HEADER, RULES, at_root, body, bound, claim, draw_cloud, draw_query, explanation, filled, has_candidate, host_rows, judgement,
                    left_rows, list_rows, names, place_all, release, sum_text, usage_rows, why_rows)
 from notation import HEADERS
 
@@ -154,22 +154,22 @@ PLACED = [
 
 # What may be asked, in words.
 HELP = """
-check                     how many rows each table has
-tokens QUERY [TOKEN]      the allocation candidates, or those after a token, one a line
-candidates QUERY [TOKEN]  the same as JSON, with summaries of their providers
-list QUERY [TOKEN]        the same as a table
-explain QUERY             how far the query comes, and why there is no candidate
-hosts QUERY               which roots fit, and what the others lack
-why QUERY HOST            what the providers of a host lack
-verify QUERY TOKEN        whether a token is a candidate
-count QUERY               how many more of the same fit
-fill QUERY                places the same again and again, and claims each placement
-claim QUERY TOKEN         claims a candidate
-release QUERY TOKEN       gives back what a claim took
-left [HOST]               what is left of each inventory, or of those of a host's tree
-usages                    what is used, as a table
-audit                     what is amiss in the cloud
-help                      these lines
+check                               how many rows each table has
+tokens QUERY [TOKEN] [at HOST]      the allocation candidates, one a line: all, or those after a token, or of a host
+candidates QUERY [TOKEN] [at HOST]  the same as JSON, with summaries of their providers
+list QUERY [TOKEN] [at HOST]        the same as a table
+explain QUERY                       how far the query comes, and why there is no candidate
+hosts QUERY                         which roots fit, and what the others lack
+why QUERY HOST                      what the providers of a host lack
+verify QUERY TOKEN                  whether a token is a candidate
+count QUERY                         how many more of the same fit
+fill QUERY                          places the same again and again, and claims each placement
+claim QUERY TOKEN                   claims a candidate
+release QUERY TOKEN                 gives back what a claim took
+left [HOST]                         what is left of each inventory, or of those of a host's tree
+usages                              what is used, as a table
+audit                               what is amiss in the cloud
+help                                these lines
 """[1:]
 
 # What is left: of a host's tree alone, where a host is named, by any provider of it or its UUID; of what is used beyond the capacity nothing.
@@ -190,6 +190,26 @@ LEFT = [
     ('left P1', ended(LEFT_HEADER + FIRST.replace(',3,9', ',11,1'), 0)),
     ('release resources=VCPU:11 P1', ended('released\n', 0)),
     ('left P1', ended(LEFT_HEADER + FIRST.replace(',3,9', ',0,12'), 0)),
+]
+
+# Candidates at one host, perhaps behind a token.
+BOTH = 'resources=DISK_GB:10,VCPU:1'
+AT = [
+    (f'tokens {BOTH} at P1', ended('P9,P1\n', 0)),
+    (f'tokens {BOTH} at P4', ended('P9,P3\n', 0)),
+    (f'tokens {BOTH} P9,P1 at P3', ended('P9,P3\n', 0)),
+    (f'tokens {BOTH} P9,P1 at P1', ended('', 0)),
+    (f'list {BOTH} at P9', ended(LIST_HEADER, 0)),
+    (f'candidates {BOTH} at nobody', ended('', 5, 'host: Unknown')),
+    (f'tokens {BOTH} x at nobody', ended('', 5, 'token: BadToken')),
+    (f'tokens {BOTH} at', ended('', 5, 'token: BadToken')),
+    (f'tokens {BOTH} at at P1', ended('', 5, 'token: BadToken')),
+    (f'tokens {BOTH} P9,P1 P3', ended('', 2, NUMBER)),
+    (f'tokens {BOTH} at P1 P3', ended('', 2, NUMBER)),
+    (f'tokens {BOTH} P9,P1 at P1 P3', ended('', 2, NUMBER)),
+    (f'explain {BOTH} at P1', ended('', 2, NUMBER)),
+    (f'claim {BOTH} P9,P1', ended('claimed\n', 0)),
+    (f'tokens {BOTH} at P3', ended('P9,P3\n', 0)),
 ]
 
 # One inventory of which more may be used than a table can state.
@@ -325,6 +345,7 @@ ENDS = [
     behind('a name that looks like the end of an answer', LIKE_ENDS, made=NAMED),
     behind('a query as it is pasted', PASTED, made=SIXTEEN),
     behind('what is left', LEFT, made=TREES),
+    behind('at a host', AT, made=tables(SHARED)),
     behind('help', [('help', ended(HELP, 0))]),
     behind('claims and releases', PLACED, made=tables(CHILD)),
     behind('claims and releases on one provider', list(stepped(IN_ONE))),
@@ -375,6 +396,9 @@ def answer(command, asked, assignment, cloud):
         return body(found, query, cloud), 0
     if command == 'list':
         return list_rows(found, query, cloud), 0
+    if command in ('tokens at', 'list at'):
+        here = at_root(found, assignment[0].root(), query, cloud)
+        return (lines(*map(names, here)) if command == 'tokens at' else list_rows(here, query, cloud)), 0
     if command == 'tokens after':
         return lines(*map(names, (one for one in found if every.index(one) > every.index(assignment)))), 0
     if command == 'verify':
@@ -392,7 +416,8 @@ def answer(command, asked, assignment, cloud):
 
 def line_of(command, text, assignment):
     """The line that asks this."""
-    second = {'verify': names(assignment), 'tokens after': names(assignment), 'why': assignment[0].name}.get(command)
+    own = f'at {assignment[0].name}'
+    second = {'verify': names(assignment), 'tokens after': names(assignment), 'why': assignment[0].name, 'tokens at': own, 'list at': own}.get(command)
     return ' '.join([command.split()[0], text, *([] if second is None else [second])])
 
 
@@ -411,7 +436,7 @@ def draw_assignment(chance, query, cloud):
     return chance.choice(found if found and chance.random() < 0.85 else every)
 
 
-JOBS = 'tokens', 'tokens after', 'candidates', 'list', 'count', 'verify', 'explain', 'hosts', 'why'
+JOBS = 'tokens', 'tokens after', 'tokens at', 'list at', 'candidates', 'list', 'count', 'verify', 'explain', 'hosts', 'why'
 KINDS = 'job', 'job', 'claim', 'claim', 'claim', 'release', 'release', 'fill', 'usages', 'left', 'fault'
 
 

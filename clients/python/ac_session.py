@@ -159,21 +159,21 @@ class Session:
 
     # ---- What fits, and what doesn't
 
-    def tokens(self, query: str, after: str = '') -> List[str]:
-        """The tokens of all allocation candidates, in their order, or of those after a token.
+    def tokens(self, query: str, after: str = '', at: str = '') -> List[str]:
+        """The tokens of all allocation candidates, in their order, or of those after a token, or of those of one host.
 
         >>> with Session('examples/cloud') as session:
-        ...     session.tokens('resources=VCPU:8')
-        ['6a90b2f4-c71d-4e05-a5c8-20f3e8d71b03']"""
-        return self.ask('tokens', query, *filter(None, [after])).lines
+        ...     session.tokens('resources=VCPU:2', at='compute-02'), session.tokens('resources=VCPU:8')
+        (['b48d0f61-9e2c-4c7a-83d5-e6047b15ac05'], ['6a90b2f4-c71d-4e05-a5c8-20f3e8d71b03'])"""
+        return self.ask('tokens', query, *filter(None, [after, at and 'at', at])).lines
 
-    def candidates(self, query: str, after: str = '') -> dict:
+    def candidates(self, query: str, after: str = '', at: str = '') -> dict:
         """The answer of `GET /allocation_candidates`, as `json` reads it.
 
         >>> with Session('examples/cloud') as session:
         ...     sorted(session.candidates('resources=VCPU:8'))
         ['allocation_requests', 'provider_summaries']"""
-        return json.loads('\n'.join(self.ask('candidates', query, *filter(None, [after])).lines))
+        return json.loads('\n'.join(self.ask('candidates', query, *filter(None, [after, at and 'at', at])).lines))
 
     def hosts(self, query: str) -> List[Host]:
         """Which roots fit, and what the others lack.

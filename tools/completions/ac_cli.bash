@@ -28,9 +28,9 @@ _ac_cli() {
     else
         case ${COMP_WORDS[1]} in
         check) offered='--tables --providers --inventories --usages --traits --aggregates --detail --help' ;;
-        candidates) offered='--tables --providers --inventories --usages --traits --aggregates --detail --microversion --tries --after --no-traits --help' ;;
-        tokens) offered='--tables --providers --inventories --usages --traits --aggregates --detail --microversion --tries --after --help' ;;
-        list) offered='--tables --providers --inventories --usages --traits --aggregates --detail --microversion --tries --after --no-traits --help' ;;
+        candidates) offered='--tables --providers --inventories --usages --traits --aggregates --detail --microversion --tries --after --at --no-traits --help' ;;
+        tokens) offered='--tables --providers --inventories --usages --traits --aggregates --detail --microversion --tries --after --at --help' ;;
+        list) offered='--tables --providers --inventories --usages --traits --aggregates --detail --microversion --tries --after --at --no-traits --help' ;;
         fill) offered='--tables --providers --inventories --usages --traits --aggregates --detail --microversion --tries --sum --help' ;;
         verify) offered='--tables --providers --inventories --usages --traits --aggregates --detail --microversion --help' ;;
         explain) offered='--tables --providers --inventories --usages --traits --aggregates --detail --microversion --tries --help' ;;

@@ -268,7 +268,7 @@ EndsForWords Ends words s given =
 
 -- the task and the tables of a call without words
 abbrev pub sample_task : Task
-sample_task = record { command = tokens None; query = codes "resources=VCPU:2"; version = V136; tries = None; detail = None }
+sample_task = record { command = tokens None None; query = codes "resources=VCPU:2"; version = V136; tries = None; detail = None }
 
 unfoldable pub sample_bytes : Bytes
 sample_bytes = record {

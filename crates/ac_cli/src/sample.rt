@@ -23,7 +23,10 @@ pub fn job() -> Job<'static>
     ensures { task_of result ≡ sample_task }
 {
     Job {
-        command: Command::Tokens { after: None },
+        command: Command::Tokens {
+            after: None,
+            at: None,
+        },
         query: "resources=VCPU:2",
         version: Version::V136,
         tries: None,

@@ -13,17 +13,27 @@ use Rattle.ac_rules.specs.Pages.{candidates, is_after, rest}
 use Rattle.ac_rules.proofs.PlaceLemmas.{found_within}
 use Rattle.ac_rules.specs.Located.{places_of}
 use Rattle.ac_cloud.specs.World.{Provider, place_of}
+use Rattle.ac_search.specs.At.{is_at, rest_at}
 
 kept : (P : List ℕ → Type 0) (test : List ℕ → Bool) (lists : List (List ℕ)) → Each P lists → Each P (filter test lists)
 kept P test lists h = each_weaker (λ t. (test t ≡ true) × P t) P (filter test lists) (λ t q. q.1) (each_filter P test lists h)
 
-pub assignments : (all : List Provider) (asked : Asked) (ids : Option (List ℕ)) → All (IsAssignment all asked) (rest all asked ids)
+each_assignment : (all : List Provider) (asked : Asked) (ids : Option (List ℕ)) → Each (IsAssignment all asked) (rest all asked ids)
 unfolding rest candidates
-assignments all asked ids =
+each_assignment all asked ids =
     let lists = all_lists (length all) (length (slots_of asked)) in
+    kept (IsAssignment all asked) (λ t. is_after all ids t) (filter (λ t. is_candidate all asked t) lists)
+    (kept (IsAssignment all asked) (λ t. is_candidate all asked t) lists (each_all_lists (length all) (length (slots_of asked))))
+
+assignments : (all : List Provider) (asked : Asked) (ids : Option (List ℕ)) → All (IsAssignment all asked) (rest all asked ids)
+assignments all asked ids = All-from_recursion (IsAssignment all asked) _ (each_assignment all asked ids)
+
+-- those at a root, too
+pub assignments_at : (all : List Provider) (asked : Asked) (root : Option ℕ) (ids : Option (List ℕ)) → All (IsAssignment all asked) (rest_at all asked root ids)
+assignments_at all asked None ids = assignments all asked ids
+assignments_at all asked (Some r) ids =
     All-from_recursion (IsAssignment all asked) _
-    (kept (IsAssignment all asked) (λ t. is_after all ids t) (filter (λ t. is_candidate all asked t) lists)
-    (kept (IsAssignment all asked) (λ t. is_candidate all asked t) lists (each_all_lists (length all) (length (slots_of asked)))))
+    (kept (IsAssignment all asked) (is_at all asked r) (rest all asked ids) (each_assignment all asked ids))
 
 -- as many places as ids, each a provider's
 abbrev AreFound : List Provider → List ℕ → List ℕ → Type 0

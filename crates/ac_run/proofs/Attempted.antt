@@ -2,19 +2,24 @@
 use Rattle.std.proofs.Common.{◌≡◌, ◌∙◌, ℕ, ◌≤◌, Bool, true, false, List, [], ◌∷◌, ◌++◌, Option, Some, None, ◌⊎◌, inl, inr, refl, sym, ap, subst, arith, append-nil}
 use Rattle.std.proofs.lemmas.Bool.Decides.{nat_tests}
 use Rattle.std.specs.Global.{Vec}
-use Rattle.std.specs.Prelude.{Contains, nat_lt, if◌then◌else◌, IfOk, Result, Ok, Err}
+use Rattle.std.specs.Prelude.{Contains, is_some, nat_lt, if◌then◌else◌, IfOk, Result, Ok, Err}
 use Rattle.ac_base.specs.Devices.{TakesPart}
+use Rattle.ac_cloud.specs.Cloud.Hosts.{host_of}
 use Rattle.ac_cloud.specs.World.{Provider, World}
+use Rattle.ac_cloud.specs.declared.cloud.provider_name.HostFault.{HostFault}
+use Rattle.ac_query.specs.Asked.{Asked}
+use Rattle.ac_query.specs.Laws.Gathered.{asked_by}
+use Rattle.ac_query.specs.Pairs.{pairs_of}
 use Rattle.ac_query.specs.declared.version.Version.{Version}
-use Rattle.ac_run.specs.Answer.{Outcome, answer, answer_by, answer_in, answer_within, past_query, past_tables, refused, said_by, size_refused, table_refused, with_detail}
+use Rattle.ac_run.specs.Answer.{Outcome, answer, answer_by, answer_in, answer_within, past_query, past_tables, past_token, refused, said_by, size_refused, table_refused, with_detail}
 use Rattle.ac_run.specs.Details.{asked_remedy, asked_text, asks_text, behind, text_asked, fault_remedy, reading_remedy}
 use Rattle.ac_run.specs.Feeds.Draining.{ExplainsReading}
 use Rattle.ac_run.specs.Feeds.{Bytes, TellBytes, too_large}
-use Rattle.ac_run.specs.Wanted.Given.{tables_in}
-use Rattle.ac_run.specs.Lines.{memory_line}
+use Rattle.ac_run.specs.Wanted.Given.{tables_in, token_refusal}
+use Rattle.ac_run.specs.Lines.{host_line, memory_line}
 use Rattle.ac_run.specs.Refusals.{IsRefusalWith, line_of, line_of_asked, line_of_tables, line_told, status_of, status_of_asked, status_of_tables, status_told}
 use Rattle.ac_run.specs.Run.{Explains, ExplainsTables, IsStated, IsWritten}
-use Rattle.ac_run.specs.Tasks.{Command, Paths, Task, check, candidates, tokens, list, fill, verify, explain, hosts, why, capacity, audit, token_in}
+use Rattle.ac_run.specs.Tasks.{Command, Paths, Task, check, candidates, tokens, list, fill, verify, explain, hosts, why, capacity, audit, host_in, token_in}
 use Rattle.ac_run.specs.Wanted.{AsksOne, ExplainsWanted}
 use Rattle.ac_run.specs.declared.refusal.AskRefusal.{AskRefusal}
 use Rattle.ac_run.specs.declared.refusal.AskRefusal.TheVariants as ask
@@ -145,24 +150,40 @@ pub asks_query : (command : Command) (detail : Bool) (version : Version) (query 
     → answer_by command detail version query world ≡ past_query (said_by command detail world) (token_in command) version query
 asks_query check detail version query world other = absurd other
 asks_query (capacity flavors metrics) detail version query world other = absurd other
-asks_query (audit zone) detail version query world other = absurd other
-asks_query (candidates after traits) detail version query world other = refl
-asks_query (tokens after) detail version query world other = refl
-asks_query (list after traits) detail version query world other = refl
+asks_query (audit _) detail version query world other = absurd other
+asks_query (candidates after at traits) detail version query world other = refl
+asks_query (tokens after at) detail version query world other = refl
+asks_query (list after at traits) detail version query world other = refl
 asks_query (fill sum) detail version query world other = refl
 asks_query (verify token) detail version query world other = refl
 asks_query explain detail version query world other = refl
 asks_query (hosts sum within) detail version query world other = refl
 asks_query (why host) detail version query world other = refl
 
+-- a host that names no provider is told behind the query and the token
+pub host_refused : (command : Command) (detail : Bool) (world : World) (asked : Asked) (host : List ℕ) (f : HostFault) → host_in command ≡ Some host
+    → token_refusal asked (token_in command) ≡ None → host_of world.providers host ≡ Err f
+    → past_token (said_by command detail world) (token_in command) asked ≡ refused (host_line f) 5
+host_refused (candidates after at traits) detail world asked host f is fine unknown = rw (fine, is, unknown) refl
+host_refused (tokens after at) detail world asked host f is fine unknown = rw (fine, is, unknown) refl
+host_refused (list after at traits) detail world asked host f is fine unknown = rw (fine, is, unknown) refl
+host_refused (why own) detail world asked host f is fine unknown = let same : own ≡ host = cc in rw (same, unknown) refl
+host_refused check detail world asked host f is fine unknown = absurd (cc)
+host_refused (fill sum) detail world asked host f is fine unknown = absurd (cc)
+host_refused (verify token) detail world asked host f is fine unknown = absurd (cc)
+host_refused explain detail world asked host f is fine unknown = absurd (cc)
+host_refused (hosts sum within) detail world asked host f is fine unknown = absurd (cc)
+host_refused (capacity flavors metrics) detail world asked host f is fine unknown = absurd (cc)
+host_refused (audit _) detail world asked host f is fine unknown = absurd (cc)
+
 -- and what is to be done says so
 asks_text_of : (command : Command) (all : List Provider) (task : Task) → AsksOne command → text_asked command all task ≡ asks_text all task
 asks_text_of check all task one = absurd one
 asks_text_of (capacity flavors metrics) all task one = absurd one
-asks_text_of (audit zone) all task one = absurd one
-asks_text_of (candidates after traits) all task one = refl
-asks_text_of (tokens after) all task one = refl
-asks_text_of (list after traits) all task one = refl
+asks_text_of (audit _) all task one = absurd one
+asks_text_of (candidates after at traits) all task one = refl
+asks_text_of (tokens after at) all task one = refl
+asks_text_of (list after at traits) all task one = refl
 asks_text_of (fill sum) all task one = refl
 asks_text_of (verify token) all task one = refl
 asks_text_of explain all task one = refl
@@ -189,7 +210,8 @@ module _ (task : Task) (world : World) where
       (asks_query task.command _ task.version task.query world h.0 ∙ rw (h.1, h.2) refl) (asks_text_of task.command world.providers task h.0 ∙ rw (h.1, h.2) refl)
   asked_said (ask.Host f) h some =
       refused_in (line_of_asked (ask.Host f)) (asked_remedy task (ask.Host f)) 5 (omega arith)
-      (asks_query task.command _ task.version task.query world h.0 ∙ rw (h.1, h.2.1, h.2.2) refl) (asks_text_of task.command world.providers task h.0 ∙ rw (h.1, h.2.1, h.2.2) refl)
+      (asks_query task.command _ task.version task.query world h.0 ∙ rw h.1 (host_refused task.command (is_some task.detail) world (asked_by task.version (pairs_of task.query)) h.2.0 f h.2.1 h.2.2 h.2.3))
+      (asks_text_of task.command world.providers task h.0 ∙ rw (h.1, h.2.2, h.2.1, h.2.3) refl)
   asked_said (ask.Flavors f) h some =
       refused_in (line_of_asked (ask.Flavors f)) (asked_remedy task (ask.Flavors f)) 4 (omega arith) (rw (h.2, h.3) refl) (rw (h.2, h.3) refl)
 

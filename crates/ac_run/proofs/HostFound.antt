@@ -6,6 +6,11 @@ use Rattle.std.specs.Option.{option_and_then}
 use Rattle.ac_base.specs.Texts.{id_value}
 use Rattle.ac_cloud.specs.Cloud.Hosts.{host_of, only_one, place_or_only, places_named}
 use Rattle.ac_cloud.specs.World.{Provider, place_of, provider_at, has_name}
+use Rattle.ac_query.specs.Asked.{Asked}
+use Rattle.ac_run.specs.Wanted.{ExplainsAt, ExplainsPage}
+use Rattle.ac_run.specs.Wanted.Given.{token_refusal}
+use Rattle.ac_run.specs.declared.refusal.AskRefusal.{AskRefusal}
+use Rattle.ac_run.specs.declared.refusal.AskRefusal.TheVariants as ask
 use Rattle.ac_rules.proofs.Elements.{each_filter, each_weaker}
 use Rattle.ac_rules.proofs.EachSlot.AnchorLemmas.{each_range}
 use Rattle.ac_rules.proofs.PlaceLemmas.{found_within}
@@ -34,3 +39,12 @@ pub host_within : (all : List Provider) (text : List ℕ) (p : ℕ) → host_of 
 unfolding host_of
 host_within all text p h =
     by_case all (places_named all text) (option_and_then (place_of all) (id_value text)) p (identified_within all (id_value text)) (named_within all text) h
+
+-- where the token is fine, what is wrong with a page is wrong with its host
+pub page_at : (all : List Provider) (asked : Asked) (after at : Option (List ℕ)) (refusal : AskRefusal) → token_refusal asked after ≡ None → ExplainsAt all at refusal
+    → ExplainsPage all asked after at refusal
+page_at all asked after at (ask.Host f) fine h = (h.0, h.1, fine, h.2)
+page_at all asked after at ask.NoMemory fine h = tt
+page_at all asked after at (ask.Query f) fine h = h.2
+page_at all asked after at (ask.Token f) fine h = absurd h.2
+page_at all asked after at (ask.Flavors f) fine h = h.2

@@ -17,7 +17,8 @@ use Rattle.ac_query.specs.Laws.Gathered.{asked_by}
 use Rattle.ac_query.specs.Pairs.{pairs_of}
 use Rattle.ac_query.specs.Pairs.Values.{ids_value}
 use Rattle.ac_rules.specs.Judge.{judge}
-use Rattle.ac_rules.specs.Pages.{page}
+use Rattle.ac_rules.specs.Pages.{cut}
+use Rattle.ac_search.specs.At.{rest_at}
 use Rattle.ac_prune.specs.Fitting.{fits_at}
 use Rattle.ac_report.specs.ListRows.{list_text}
 use Rattle.ac_report.specs.Texts.{body, lines, shown_providers}
@@ -79,14 +80,18 @@ ids_given token = option_and_then ids_value token
 abbrev pub Says : Type 0
 Says = Asked → Option (List ℕ) → Outcome
 
-abbrev pub page_body : List Provider → Bool → Says
-page_body all traits asked ids = written (body (shown_providers traits all) asked (page all asked ids asked.limit)) 0
+-- the candidates after some ids, or all, at a root, where one is named, as many as the limit says
+abbrev pub page_at : List Provider → Asked → Option ℕ → Option (List ℕ) → List (List ℕ)
+page_at all asked root ids = cut asked.limit (rest_at all asked root ids)
 
-abbrev pub page_lines : List Provider → Says
-page_lines all asked ids = written (lines all (page all asked ids asked.limit)) 0
+abbrev pub page_body : List Provider → Bool → Option ℕ → Says
+page_body all traits root asked ids = written (body (shown_providers traits all) asked (page_at all asked root ids)) 0
 
-abbrev pub page_rows : List Provider → Bool → Says
-page_rows all traits asked ids = written (list_text (shown_providers traits all) asked (page all asked ids asked.limit)) 0
+abbrev pub page_lines : List Provider → Option ℕ → Says
+page_lines all root asked ids = written (lines all (page_at all asked root ids)) 0
+
+abbrev pub page_rows : List Provider → Bool → Option ℕ → Says
+page_rows all traits root asked ids = written (list_text (shown_providers traits all) asked (page_at all asked root ids)) 0
 
 -- how many placements are wanted: as many as the limit says, which a sum leaves aside
 abbrev pub fill_limit : Bool → Asked → Option ℕ
@@ -128,6 +133,11 @@ abbrev pub on_host : Result ℕ HostFault → (ℕ → Outcome) → Outcome
 on_host (Ok host) say = say host
 on_host (Err f) say = refused (host_line f) 5
 
+-- what is said at the root of the provider that is named, or of all where none is
+abbrev pub at_host : List Provider → Option (List ℕ) → (Option ℕ → Says) → Says
+at_host all None say = say None
+at_host all (Some host) say = λ asked ids. on_host (host_of all host) (λ host. say (Some (root_place all host)) asked ids)
+
 abbrev pub why_rows : List Provider → List ℕ → Says
 why_rows all host asked ids = on_host (host_of all host) (λ host. why_not all asked host)
 
@@ -160,9 +170,9 @@ past_query say token version query =
 -- what a command says of an accepted query, in a world; of what a rule is broken, where more is told
 abbrev pub said_by : Command → Bool → World → Says
 said_by command.check detail world = λ asked ids. written (counts world.sizes) 0
-said_by (command.candidates after traits) detail world = page_body world.providers traits
-said_by (command.tokens after) detail world = page_lines world.providers
-said_by (command.list after traits) detail world = page_rows world.providers traits
+said_by (command.candidates after at traits) detail world = at_host world.providers at (page_body world.providers traits)
+said_by (command.tokens after at) detail world = at_host world.providers at (page_lines world.providers)
+said_by (command.list after at traits) detail world = at_host world.providers at (page_rows world.providers traits)
 said_by (command.fill sum) detail world = fills world.providers sum
 said_by (command.verify token) detail world = verdict_line world.providers detail
 said_by command.explain detail world = explanation world.providers

@@ -14,7 +14,7 @@ use Rattle.ac_remedies.specs.Queries.{host_remedy, query_remedy, token_remedy}
 use Rattle.ac_remedies.specs.Tables.{record_remedy, size_remedy, unread_remedy}
 use Rattle.ac_run.specs.Wanted.Given.{token_refusal}
 use Rattle.ac_run.specs.Flavors.{flavors_refused, why_shown}
-use Rattle.ac_run.specs.Tasks.{Command, Paths, Task, capacity, token_in, why}
+use Rattle.ac_run.specs.Tasks.{Command, Paths, Task, capacity, host_in, token_in}
 use Rattle.ac_run.specs.declared.refusal.AskRefusal.{AskRefusal}
 use Rattle.ac_run.specs.declared.refusal.AskRefusal.TheVariants as ask
 use Rattle.ac_run.specs.declared.refusal.TablesRefusal.{TablesRefusal}
@@ -60,8 +60,7 @@ host_said host (Err f) = host_remedy host f
 
 -- of a host that names no provider
 abbrev pub host_text : List Provider → Command → List ℕ
-host_text all (why host) = host_said host (host_of all host)
-host_text all _ = []
+host_text all command = text_of (host_in command) (λ host. host_said host (host_of all host)) []
 
 -- of a token that is refused; else of the host
 abbrev pub token_text : List Provider → Command → Asked → List ℕ
@@ -99,14 +98,10 @@ abbrev pub fault_remedy : Tables → TablesRefusal → Paths → List ℕ
 fault_remedy stated (tables.Record t row kind) = λ paths. fault_text paths stated t row kind
 fault_remedy stated _ = λ paths. []
 
-abbrev pub host_in : Command → List ℕ
-host_in (why host) = host
-host_in _ = []
-
 -- of what is asked and refused
 abbrev pub asked_remedy : Task → AskRefusal → List ℕ
 asked_remedy task (ask.Query f) = query_remedy task.version task.query (fault_shown f)
 asked_remedy task (ask.Token f) = token_remedy (unwrap_or (token_in task.command) []) (asked_by task.version (pairs_of task.query)) f
-asked_remedy task (ask.Host f) = host_remedy (host_in task.command) f
+asked_remedy task (ask.Host f) = host_remedy (unwrap_or (host_in task.command) []) f
 asked_remedy task (ask.Flavors f) = (why_shown f).detail
 asked_remedy task ask.NoMemory = []

@@ -16,7 +16,7 @@ use Rattle.ac_tables.specs.Tables.{world_stated}
 
 -- whether a command's answer says nothing of the service by itself
 abbrev pub is_noted : Command → Bool
-is_noted (command.tokens after) = true
+is_noted (command.tokens after at) = true
 is_noted (command.fill sum) = true
 is_noted (command.hosts sum within) = true
 is_noted _ = false
@@ -35,7 +35,7 @@ noted task b = noted_in task (world_stated (tables_in b))
 
 -- of what is wanted
 abbrev pub note_to : Wanted → World → List ℕ
-note_to (wanted.Lines query token) world = differs_lines world.providers (asked_of query) true
+note_to (wanted.Lines page) world = differs_lines world.providers (asked_of page.query) true
 note_to (wanted.Fill query sum) world = differs_lines world.providers (asked_of query) true
 note_to (wanted.Hosts query sum within) world = differs_lines world.providers (asked_of query) true
 note_to _ world = []

@@ -27,9 +27,9 @@ OneMayStop tries all plans = (plan : Plan) × Contains plans plan × MayStop tri
 -- a search of a command may stop, with so many tries, where a version reads its queries
 abbrev pub SearchMayStop : Command → Version → Option ℕ → List Provider → Asked → Type 0
 SearchMayStop command.check version tries all asked = ⊥
-SearchMayStop (command.candidates after traits) version tries all asked = MayStop tries all asked (ids_given after)
-SearchMayStop (command.tokens after) version tries all asked = MayStop tries all asked (ids_given after)
-SearchMayStop (command.list after traits) version tries all asked = MayStop tries all asked (ids_given after)
+SearchMayStop (command.candidates after at traits) version tries all asked = MayStop tries all asked (ids_given after)
+SearchMayStop (command.tokens after at) version tries all asked = MayStop tries all asked (ids_given after)
+SearchMayStop (command.list after at traits) version tries all asked = MayStop tries all asked (ids_given after)
 SearchMayStop (command.fill sum) version tries all asked = MayStop tries all asked None
 SearchMayStop (command.verify token) version tries all asked = ⊥
 SearchMayStop command.explain version tries all asked = ExplanationMayStop tries all asked
@@ -45,9 +45,9 @@ TaskMayStop task b = SearchMayStop task.command task.version task.tries (world_s
 -- a search for what is wanted may stop, with so many tries
 abbrev pub AnswerMayStop : Wanted → Option ℕ → List Provider → Type 0
 AnswerMayStop wanted.Counts tries all = ⊥
-AnswerMayStop (wanted.Body query token traits) tries all = MayStop tries all (asked_of query) (option_map ids_of token)
-AnswerMayStop (wanted.Lines query token) tries all = MayStop tries all (asked_of query) (option_map ids_of token)
-AnswerMayStop (wanted.Rows query token traits) tries all = MayStop tries all (asked_of query) (option_map ids_of token)
+AnswerMayStop (wanted.Body page traits) tries all = MayStop tries all (asked_of page.query) (option_map ids_of page.token)
+AnswerMayStop (wanted.Lines page) tries all = MayStop tries all (asked_of page.query) (option_map ids_of page.token)
+AnswerMayStop (wanted.Rows page traits) tries all = MayStop tries all (asked_of page.query) (option_map ids_of page.token)
 AnswerMayStop (wanted.Fill query sum) tries all = MayStop tries all (asked_of query) None
 AnswerMayStop (wanted.Verdict query token detail) tries all = ⊥
 AnswerMayStop (wanted.Explanation question) tries all = ExplanationMayStop tries all (asked_of question.query)

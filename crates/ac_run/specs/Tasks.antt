@@ -8,13 +8,13 @@ use Rattle.ac_run.specs.declared.job.Command.TheVariants as variant
 use Rattle.ac_run.specs.declared.job.Job.{Job}
 use Rattle.ac_tables.specs.declared.read.FiveTables.{FiveTables}
 
--- what is to be done: with the token to begin after, or to judge; with traits, or not; with the number of placements in place of their tokens, or not;
+-- what is to be done: with the token to begin after, or to judge; with the host at whose root candidates are to stand; with traits, or not; with the number of placements in place of their tokens, or not;
 -- with the host that is asked about; with the text of a table of flavors, as rows or as metrics; with an aggregate as the zone of hosts
 pub data Command : Type 0 where
   check : Command
-  candidates : Option (List ℕ) → Bool → Command
-  tokens : Option (List ℕ) → Command
-  list : Option (List ℕ) → Bool → Command
+  candidates : Option (List ℕ) → Option (List ℕ) → Bool → Command
+  tokens : Option (List ℕ) → Option (List ℕ) → Command
+  list : Option (List ℕ) → Option (List ℕ) → Bool → Command
   fill : Bool → Command
   verify : List ℕ → Command
   explain : Command
@@ -37,19 +37,27 @@ pub record Task : Type 0 where
 
 -- the token to judge, or to begin after
 abbrev pub token_in : Command → Option (List ℕ)
-token_in (candidates after traits) = after
-token_in (tokens after) = after
-token_in (list after traits) = after
+token_in (candidates after at traits) = after
+token_in (tokens after at) = after
+token_in (list after at traits) = after
 token_in (verify token) = Some token
 token_in _ = None
+
+-- the host that is asked about, or at whose root candidates are to stand
+abbrev pub host_in : Command → Option (List ℕ)
+host_in (candidates after at traits) = at
+host_in (tokens after at) = at
+host_in (list after at traits) = at
+host_in (why host) = Some host
+host_in _ = None
 
 -- ---- what a job asks
 
 abbrev pub command_shown : rust.Command → Command
 command_shown variant.Check = check
-command_shown (variant.Candidates after traits) = candidates (option_map (λ t. t.now) after) traits
-command_shown (variant.Tokens after) = tokens (option_map (λ t. t.now) after)
-command_shown (variant.List after traits) = list (option_map (λ t. t.now) after) traits
+command_shown (variant.Candidates after at traits) = candidates (option_map (λ t. t.now) after) (option_map (λ t. t.now) at) traits
+command_shown (variant.Tokens after at) = tokens (option_map (λ t. t.now) after) (option_map (λ t. t.now) at)
+command_shown (variant.List after at traits) = list (option_map (λ t. t.now) after) (option_map (λ t. t.now) at) traits
 command_shown (variant.Fill sum) = fill sum
 command_shown (variant.Verify token) = verify token.now
 command_shown variant.Explain = explain

@@ -1,7 +1,7 @@
 -- What is wanted of a cloud, and why what is asked is refused.
 pub mod Given
 pub mod Mark
-use Rattle.std.specs.Prelude.{◌≡◌, ◌<◌, ℕ, Bool, true, is_some, List, length, map, Option, Some, None, Result, Err, ⊤}
+use Rattle.std.specs.Prelude.{◌≡◌, ◌<◌, ℕ, Bool, IfSome, true, is_some, List, length, map, Option, Some, None, Result, Err, ⊤}
 use Rattle.std.specs.List.{All}
 use Rattle.std.specs.Option.{option_map}
 use Rattle.ac_cloud.specs.Cloud.Hosts.{host_of}
@@ -20,7 +20,7 @@ use Rattle.ac_run.specs.Answer.{Outcome, amiss, capacities, explanation, fills, 
 use Rattle.ac_run.specs.Wanted.Given.{token_refusal}
 use Rattle.ac_run.specs.Outputs.{counts}
 use Rattle.ac_run.specs.Flavors.{Why, flavors_refused, plan_shown, why_shown}
-use Rattle.ac_run.specs.Tasks.{Command, Task, audit, capacity, check, token_in, why}
+use Rattle.ac_run.specs.Tasks.{Command, Task, audit, capacity, check, host_in, token_in}
 use Rattle.ac_run.specs.declared.refusal.AskRefusal.{AskRefusal}
 use Rattle.ac_run.specs.declared.refusal.AskRefusal.TheVariants as ask
 use Rattle.ac_run.specs.declared.wanted.Wanted.{Wanted}
@@ -29,9 +29,9 @@ use Rattle.ac_run.specs.declared.wanted.Wanted.TheVariants as wanted
 -- the answer to what is wanted, in a world
 abbrev pub answer_to : Wanted → World → Outcome
 answer_to wanted.Counts world = written (counts world.sizes) 0
-answer_to (wanted.Body query token traits) world = page_body world.providers traits (asked_of query) (option_map ids_of token)
-answer_to (wanted.Lines query token) world = page_lines world.providers (asked_of query) (option_map ids_of token)
-answer_to (wanted.Rows query token traits) world = page_rows world.providers traits (asked_of query) (option_map ids_of token)
+answer_to (wanted.Body page traits) world = page_body world.providers traits page.root (asked_of page.query) (option_map ids_of page.token)
+answer_to (wanted.Lines page) world = page_lines world.providers page.root (asked_of page.query) (option_map ids_of page.token)
+answer_to (wanted.Rows page traits) world = page_rows world.providers traits page.root (asked_of page.query) (option_map ids_of page.token)
 answer_to (wanted.Fill query sum) world = fills world.providers sum (asked_of query) None
 answer_to (wanted.Verdict query token detail) world = verdict_line world.providers detail (asked_of query) (Some (ids_of token))
 answer_to (wanted.Explanation question) world = explanation world.providers (asked_of question.query) None
@@ -43,6 +43,9 @@ answer_to (wanted.Amiss zone) world = amiss world zone
 -- The token on which a verdict is wanted has an id for each slot of the query; a query that is placed again and again asks for an amount of a class; and
 -- the provider that is asked about is there. So does that of each flavor.
 abbrev pub IsSound : List Provider → Wanted → Type 0
+IsSound all (wanted.Body page traits) = IfSome page.root (λ root. root < length all)
+IsSound all (wanted.Lines page) = IfSome page.root (λ root. root < length all)
+IsSound all (wanted.Rows page traits) = IfSome page.root (λ root. root < length all)
 IsSound all (wanted.Verdict query token detail) = length (ids_of token) ≡ length (slots_of (asked_of query))
 IsSound all (wanted.Fill query sum) = asks_units (asked_of query) ≡ true
 IsSound all (wanted.Why query host) = host < length all
@@ -83,8 +86,20 @@ abbrev pub ExplainsRest : List Provider → Command → Asked → AskRefusal →
 ExplainsRest all command asked (ask.Query f) = ⊥
 ExplainsRest all command asked (ask.Flavors f) = ⊥
 ExplainsRest all command asked (ask.Token f) = token_refusal asked (token_in command) ≡ Some f
-ExplainsRest all command asked (ask.Host f) = (host : List ℕ) × (command ≡ why host) × (host_of all host ≡ Err f)
+ExplainsRest all command asked (ask.Host f) =
+    (host : List ℕ) × (host_in command ≡ Some host) × (token_refusal asked (token_in command) ≡ None) × (host_of all host ≡ Err f)
 ExplainsRest all command asked ask.NoMemory = ⊤
+
+-- why the host at whose root candidates are to stand names no provider
+abbrev pub ExplainsAt : List Provider → Option (List ℕ) → AskRefusal → Type 0
+ExplainsAt all at refusal = (host : List ℕ) × (at ≡ Some host) × ExplainsHost (host_of all host) refusal
+
+-- what is wrong with the token to begin after, and else with the host at whose root candidates are to stand; or want of memory
+abbrev pub ExplainsPage : List Provider → Asked → Option (List ℕ) → Option (List ℕ) → AskRefusal → Type 0
+ExplainsPage all asked after at (ask.Token f) = token_refusal asked after ≡ Some f
+ExplainsPage all asked after at (ask.Host f) = (host : List ℕ) × (at ≡ Some host) × (token_refusal asked after ≡ None) × (host_of all host ≡ Err f)
+ExplainsPage all asked after at ask.NoMemory = ⊤
+ExplainsPage all asked after at _ = ⊥
 
 -- it asks for one query: `check` and `audit` ask for none, and `capacity` for those of its flavors
 abbrev pub AsksOne : Command → Type 0

@@ -1,6 +1,6 @@
 //! The answers over a cloud, each written with its status.
 
-ghost use Rattle.std.specs.Prelude.{◌≡◌, ◌<◌, IfOk, Some, None, length};
+ghost use Rattle.std.specs.Prelude.{◌≡◌, ◌<◌, IfOk, IfSome, Some, None, length};
 ghost use Rattle.std.specs.List.{All};
 ghost use Rattle.std.specs.Option.{option_map};
 ghost use Rattle.ac_cloud.specs.Cloud.CloudWorld.{providers_of, world_of};
@@ -14,7 +14,7 @@ ghost use Rattle.ac_run.specs.Wanted.{IsSound, answer_to};
 ghost use Rattle.ac_run.specs.Outputs.{counts, detailed_text, verdict_status, verdict_text};
 ghost use Rattle.ac_rules.specs.declared.verdict.Verdict.TheVariants as Verdict;
 ghost use Rattle.ac_report.specs.Pages.{IsAssignment};
-ghost use Rattle.ac_rules.specs.Pages.{rest};
+ghost use Rattle.ac_search.specs.At.{rest_at};
 ghost use Rattle.ac_run.specs.Run.{Delivers};
 ghost use Rattle.ac_run.specs.Stops.{AnswerMayStop};
 ghost use Rattle.ac_report.specs.Findings.Explanation.Candidates.{ExplanationMayStop};
@@ -23,7 +23,7 @@ ghost use Rattle.ac_search.specs.Shown.Walk.{MayStop};
 use crate::capacity::placements::write_fill;
 use crate::capacity::write_capacity;
 use crate::outputs::{detailed_line, push_counts, push_text, push_verdict, verdict_status};
-use crate::wanted::Wanted;
+use crate::wanted::{Page, Wanted};
 use ac_base::{Id, NoMemory, Sink};
 use ac_find::{Lack, all_slots, broken_detail, find_amiss, find_lacks, tree_counts};
 use ac_query::{Query, Token};
@@ -46,23 +46,25 @@ fn write_counts<W: Sink>(cloud: &Cloud, out: &mut W) -> Result<u8, PageFault>
     Ok(0)
 }
 
-/// The candidates after a token, or all of them, in so many tries.
-pub(crate) fn walk_after<'a>(
+// The candidates of a page and those behind it, in so many tries.
+fn walk_of<'a>(
     alloc: Global,
     cloud: &'a Cloud,
-    query: &'a Query,
-    token: &Option<Token>,
+    page: &'a Page,
     tries: Option<u64>,
 ) -> Result<Walk<'a>, NoMemory>
+    requires { IfSome page.now.root (λ root. root < length (providers_of cloud.now)) }
     ensures left { IfOk result (λ walk. ⟦<Walk<'a> as Source>⟧.left walk
-        ≡ rest (providers_of cloud.now) (asked_of query.now) (option_map ids_of token.now)) }
+        ≡ rest_at (providers_of cloud.now) (asked_of page.now.query) page.now.root
+        (option_map ids_of page.now.token)) }
     ensures assigned { IfOk result (λ walk. All (IsAssignment (providers_of cloud.now)
-        (asked_of query.now)) (⟦<Walk<'a> as Source>⟧.left walk)) }
+        (asked_of page.now.query)) (⟦<Walk<'a> as Source>⟧.left walk)) }
     ensures stops { IfOk result (λ walk. ⟦<Walk<'a> as Source>⟧.may_stop walk
-        → MayStop tries (providers_of cloud.now) (asked_of query.now)
-        (option_map ids_of token.now)) }
+        → MayStop tries (providers_of cloud.now) (asked_of page.now.query)
+        (option_map ids_of page.now.token)) }
 {
-    Ok(Walk::new(alloc, cloud, query, token.as_ref())?.within(tries))
+    let walk = Walk::at(alloc, cloud, &page.query, page.token.as_ref(), page.root)?;
+    Ok(walk.within(tries))
 }
 
 // The tokens of a page, a line each.
@@ -70,20 +72,20 @@ pub(crate) fn walk_after<'a>(
 fn write_lines<W: Sink>(
     alloc: Global,
     cloud: &Cloud,
-    query: &Query,
-    token: &Option<Token>,
+    page: &Page,
     tries: Option<u64>,
     out: &mut W,
 ) -> Result<u8, PageFault>
-    ensures { Delivers (page_lines (providers_of cloud.now) (asked_of query.now)
-        (option_map ids_of token.now))
-        (MayStop tries (providers_of cloud.now) (asked_of query.now)
-        (option_map ids_of token.now))
+    requires { IfSome page.now.root (λ root. root < length (providers_of cloud.now)) }
+    ensures { Delivers (page_lines (providers_of cloud.now) page.now.root
+        (asked_of page.now.query) (option_map ids_of page.now.token))
+        (MayStop tries (providers_of cloud.now) (asked_of page.now.query)
+        (option_map ids_of page.now.token))
         result (W.taken out.old) (W.taken out.new) (W.failures out.old)
         (W.failures out.new) }
 {
-    let mut source = walk_after(alloc, cloud, query, token, tries)?;
-    write_tokens(alloc, cloud, query, &mut source, out)?;
+    let mut source = walk_of(alloc, cloud, page, tries)?;
+    write_tokens(alloc, cloud, &page.query, &mut source, out)?;
     Ok(0)
 }
 
@@ -92,21 +94,21 @@ fn write_lines<W: Sink>(
 fn write_body<W: Sink>(
     alloc: Global,
     cloud: &Cloud,
-    query: &Query,
-    token: &Option<Token>,
+    page: &Page,
     traits: bool,
     tries: Option<u64>,
     out: &mut W,
 ) -> Result<u8, PageFault>
-    ensures { Delivers (page_body (providers_of cloud.now) traits (asked_of query.now)
-        (option_map ids_of token.now))
-        (MayStop tries (providers_of cloud.now) (asked_of query.now)
-        (option_map ids_of token.now))
+    requires { IfSome page.now.root (λ root. root < length (providers_of cloud.now)) }
+    ensures { Delivers (page_body (providers_of cloud.now) traits page.now.root
+        (asked_of page.now.query) (option_map ids_of page.now.token))
+        (MayStop tries (providers_of cloud.now) (asked_of page.now.query)
+        (option_map ids_of page.now.token))
         result (W.taken out.old) (W.taken out.new) (W.failures out.old)
         (W.failures out.new) }
 {
-    let mut source = walk_after(alloc, cloud, query, token, tries)?;
-    write_shown_page(alloc, cloud, query, traits, &mut source, out)?;
+    let mut source = walk_of(alloc, cloud, page, tries)?;
+    write_shown_page(alloc, cloud, &page.query, traits, &mut source, out)?;
     Ok(0)
 }
 
@@ -115,21 +117,21 @@ fn write_body<W: Sink>(
 fn write_rows<W: Sink>(
     alloc: Global,
     cloud: &Cloud,
-    query: &Query,
-    token: &Option<Token>,
+    page: &Page,
     traits: bool,
     tries: Option<u64>,
     out: &mut W,
 ) -> Result<u8, PageFault>
-    ensures { Delivers (page_rows (providers_of cloud.now) traits (asked_of query.now)
-        (option_map ids_of token.now))
-        (MayStop tries (providers_of cloud.now) (asked_of query.now)
-        (option_map ids_of token.now))
+    requires { IfSome page.now.root (λ root. root < length (providers_of cloud.now)) }
+    ensures { Delivers (page_rows (providers_of cloud.now) traits page.now.root
+        (asked_of page.now.query) (option_map ids_of page.now.token))
+        (MayStop tries (providers_of cloud.now) (asked_of page.now.query)
+        (option_map ids_of page.now.token))
         result (W.taken out.old) (W.taken out.new) (W.failures out.old)
         (W.failures out.new) }
 {
-    let mut source = walk_after(alloc, cloud, query, token, tries)?;
-    write_list(alloc, cloud, query, traits, &mut source, out)?;
+    let mut source = walk_of(alloc, cloud, page, tries)?;
+    write_list(alloc, cloud, &page.query, traits, &mut source, out)?;
     Ok(0)
 }
 
@@ -354,13 +356,9 @@ pub fn write_answer<W: Sink>(
 {
     match wanted {
         Wanted::Counts => write_counts(cloud, out),
-        Wanted::Body(query, token, traits) => {
-            write_body(alloc, cloud, query, token, *traits, tries, out)
-        }
-        Wanted::Lines(query, token) => write_lines(alloc, cloud, query, token, tries, out),
-        Wanted::Rows(query, token, traits) => {
-            write_rows(alloc, cloud, query, token, *traits, tries, out)
-        }
+        Wanted::Body(page, traits) => write_body(alloc, cloud, page, *traits, tries, out),
+        Wanted::Lines(page) => write_lines(alloc, cloud, page, tries, out),
+        Wanted::Rows(page, traits) => write_rows(alloc, cloud, page, *traits, tries, out),
         Wanted::Fill(query, sum) => write_fill(alloc, cloud, query, *sum, tries, out),
         Wanted::Verdict(query, token, detail) => {
             write_verdict(alloc, cloud, query, token, *detail, out)

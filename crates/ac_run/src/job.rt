@@ -10,18 +10,21 @@ pub type Paths<'a> = FiveTables<&'a str>;
 pub enum Command<'a> {
     /// Checks the tables, and writes the size of each.
     Check,
-    /// Writes the candidates after a token, or all, as JSON with summaries of their providers; with or without traits.
+    /// Writes the candidates after a token, or all, as JSON with summaries of their providers; with or without traits. Where a host is named, those at its root.
     Candidates {
         after: Option<&'a str>,
+        at: Option<&'a str>,
         traits: bool,
     },
-    /// Writes each candidate after a token, or all, as a token, one a line.
+    /// Writes each candidate after a token, or all, as a token, one a line. Where a host is named, those at its root.
     Tokens {
         after: Option<&'a str>,
+        at: Option<&'a str>,
     },
-    /// Writes a row for each provider of each candidate after a token, or of all, as a table; with or without traits.
+    /// Writes a row for each provider of each candidate after a token, or of all, as a table; with or without traits. Where a host is named, those at its root.
     List {
         after: Option<&'a str>,
+        at: Option<&'a str>,
         traits: bool,
     },
     /// Places again and again, each time at the first candidate that is left, and writes each placement as a token, or how many there are.
@@ -72,7 +75,7 @@ pub struct Job<'a> {
 
 impl<'a> Command<'a> {
     ghost use Rattle.std.specs.Prelude.{◌≡◌, option_map};
-    ghost use Rattle.ac_run.specs.Tasks.{command_shown, token_in};
+    ghost use Rattle.ac_run.specs.Tasks.{command_shown, host_in, token_in};
 
     /// The token to judge, or to begin after.
     pub fn token(self) -> Option<&'a str>
@@ -80,9 +83,22 @@ impl<'a> Command<'a> {
     {
         match self {
             Command::Candidates { after, .. }
-            | Command::Tokens { after }
+            | Command::Tokens { after, .. }
             | Command::List { after, .. } => { after }
             Command::Verify { token } => Some(token),
+            _ => None,
+        }
+    }
+
+    /// The host that is asked about, or at whose root candidates are to stand.
+    pub fn host(self) -> Option<&'a str>
+        ensures { option_map (λ t. t.now) result ≡ host_in (command_shown self.entry) }
+    {
+        match self {
+            Command::Candidates { at, .. }
+            | Command::Tokens { at, .. }
+            | Command::List { at, .. } => { at }
+            Command::Why { host } => Some(host),
             _ => None,
         }
     }

@@ -14,7 +14,8 @@ pub(crate) fn note_to(alloc: Global, cloud: &Cloud, wanted: &Wanted) -> Result<V
     ensures { IfOk result (λ note. note.items ≡ note_to wanted.now (world_of cloud.now)) }
 {
     match wanted {
-        Wanted::Lines(query, _) | Wanted::Fill(query, _) | Wanted::Hosts(query, _, _) => {
+        Wanted::Lines(page) => differences_text(alloc, cloud, &page.query, true),
+        Wanted::Fill(query, _) | Wanted::Hosts(query, _, _) => {
             differences_text(alloc, cloud, query, true)
         }
         _ => Ok(Vec::new(alloc)),

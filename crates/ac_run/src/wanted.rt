@@ -1,24 +1,24 @@
 //! What a job wants of a cloud: its query and its token read, and its host found.
 
-ghost use Rattle.std.specs.Prelude.{◌≡◌, IfOk, IfErr, Ok, OnOk, Some, None, length, true};
+ghost use Rattle.std.specs.Prelude.{◌≡◌, ◌<◌, ℕ, IfOk, IfErr, IfSome, List, Ok, OnOk, Option, Some, None, length, true};
 ghost use Rattle.std.specs.Option.{option_map};
 ghost use Rattle.ac_cloud.specs.Cloud.CloudWorld.{providers_of, world_of};
 ghost use Rattle.ac_cloud.specs.Cloud.Hosts.{host_of};
 ghost use Rattle.ac_fill.specs.Filled.{asks_units};
-ghost use Rattle.ac_query.specs.Asked.{slots_of};
+ghost use Rattle.ac_query.specs.Asked.{Asked, slots_of};
 ghost use Rattle.ac_query.specs.Faults.{query_fault};
 ghost use Rattle.ac_query.specs.Laws.Gathered.{asked_by};
 ghost use Rattle.ac_query.specs.Pairs.{pairs_of};
 ghost use Rattle.ac_query.specs.Pairs.Values.{ids_value};
 ghost use Rattle.ac_query.specs.Shown.Queries.{asked_of};
 ghost use Rattle.ac_query.specs.Tokens.{ids_of, token_fault};
-ghost use Rattle.ac_run.specs.Answer.{answer_in, ids_given, past_token, said_by, zone_named};
+ghost use Rattle.ac_run.specs.Answer.{Says, answer_in, at_host, ids_given, past_token, said_by, zone_named};
 ghost use Rattle.ac_run.specs.Wanted.Given.{token_refusal};
 ghost use Rattle.ac_run.specs.declared.refusal.AskRefusal.TheVariants as AskRefusal;
 ghost use Rattle.ac_run.specs.Notes.{note_to, noted_by};
 ghost use Rattle.ac_run.specs.Stops.{AnswerMayStop, SearchMayStop};
 ghost use Rattle.ac_run.specs.Tasks.{command_shown, task_of, token_in};
-ghost use Rattle.ac_run.specs.Wanted.{ExplainsHost, ExplainsQuery, ExplainsRest, ExplainsToken, ExplainsWanted, IsSound, answer_to, details_in};
+ghost use Rattle.ac_run.specs.Wanted.{ExplainsAt, ExplainsHost, ExplainsPage, ExplainsQuery, ExplainsRest, ExplainsToken, ExplainsWanted, IsSound, answer_to, details_in};
 
 pub mod mark;
 
@@ -28,8 +28,16 @@ use crate::refusal::AskRefusal;
 use ac_base::{Id, NoMemory};
 use ac_cloud::Cloud;
 use ac_query::{Query, QueryFault, Token, TokenFault, Version};
-use ac_report::findings::Question;
+use ac_report::findings::{Question, root_place};
 use std::alloc::Global;
+
+/// A page of candidates: those of a query after a token, or all of them; of a root, where one is named by its place.
+#[derive(Drop)]
+pub struct Page {
+    pub query: Query,
+    pub token: Option<Token>,
+    pub root: Option<u32>,
+}
 
 /// What a job wants of a cloud, its query and its token read, and its host found.
 #[derive(Drop)]
@@ -37,11 +45,11 @@ pub enum Wanted {
     /// How much the tables told.
     Counts,
     /// The body of a page, and whether traits are written.
-    Body(Query, Option<Token>, bool),
+    Body(Page, bool),
     /// The tokens of a page.
-    Lines(Query, Option<Token>),
+    Lines(Page),
     /// The rows of a page, and whether traits are written.
-    Rows(Query, Option<Token>, bool),
+    Rows(Page, bool),
     /// Placements one after another: their tokens, or how many there are.
     Fill(Query, bool),
     /// The verdict on the list that a token names, and whether it is said of what a rule is broken.
@@ -113,6 +121,49 @@ fn find_host(cloud: &Cloud, host: &str) -> Result<u32, AskRefusal>
         .map_err(|fault| AskRefusal::Host(fault))
 }
 
+// The place of the root at which candidates are to stand, where a host names one.
+#[tactic(auto, using(crate::proofs::HostFound::host_within))]
+fn find_root(cloud: &Cloud, host: Option<&str>) -> Result<Option<u32>, AskRefusal>
+    ensures found { IfOk result (λ root. (say : Option ℕ → Says) (asked : Asked)
+        (ids : Option (List ℕ)) → at_host (providers_of cloud.now)
+        (option_map (λ t. t.now) host.entry) say asked ids ≡ say root asked ids) }
+    ensures sound { IfOk result (λ root.
+        IfSome root (λ place. place < length (providers_of cloud.now))) }
+    ensures fault { IfErr result (ExplainsAt (providers_of cloud.now)
+        (option_map (λ t. t.now) host.entry)) }
+{
+    match host {
+        Some(host) => Ok(Some(root_place(cloud, find_host(cloud, host)?))),
+        None => Ok(None),
+    }
+}
+
+// A page: its token is read, and then its root is looked for.
+#[tactic(auto, using(crate::proofs::HostFound::page_at))]
+fn read_page(
+    alloc: Global,
+    cloud: &Cloud,
+    query: Query,
+    after: Option<&str>,
+    at: Option<&str>,
+) -> Result<Page, AskRefusal>
+    ensures query { IfOk result (λ page. asked_of page.query ≡ asked_of query) }
+    ensures said { IfOk result (λ page. (say : Option ℕ → Says) → past_token
+        (at_host (providers_of cloud.now) (option_map (λ t. t.now) at.entry) say)
+        (option_map (λ t. t.now) after.entry) (asked_of query)
+        ≡ say page.root (asked_of query) (option_map ids_of page.token)) }
+    ensures token { IfOk result (λ page. option_map ids_of page.token
+        ≡ ids_given (option_map (λ t. t.now) after.entry)) }
+    ensures sound { IfOk result (λ page.
+        IfSome page.root (λ place. place < length (providers_of cloud.now))) }
+    ensures fault { IfErr result (ExplainsPage (providers_of cloud.now) (asked_of query)
+        (option_map (λ t. t.now) after.entry) (option_map (λ t. t.now) at.entry)) }
+{
+    let token = read_after(alloc, after, &query)?;
+    let root = find_root(cloud, at)?;
+    Ok(Page { query, token, root })
+}
+
 // How far a query comes: it is read again without one thing after another.
 fn read_question(alloc: Global, query: Query, job: &Job) -> Result<Question, AskRefusal>
     requires { asked_of query ≡ asked_by job.now.version (pairs_of job.now.query.now) }
@@ -151,17 +202,14 @@ fn wanted_of(alloc: Global, job: &Job, cloud: &Cloud, query: Query) -> Result<Wa
 {
     match job.command {
         Command::Check => Ok(Wanted::Counts),
-        Command::Candidates { after, traits } => {
-            let token = read_after(alloc, after, &query)?;
-            Ok(Wanted::Body(query, token, traits))
+        Command::Candidates { after, at, traits } => {
+            Ok(Wanted::Body(read_page(alloc, cloud, query, after, at)?, traits))
         }
-        Command::Tokens { after } => {
-            let token = read_after(alloc, after, &query)?;
-            Ok(Wanted::Lines(query, token))
+        Command::Tokens { after, at } => {
+            Ok(Wanted::Lines(read_page(alloc, cloud, query, after, at)?))
         }
-        Command::List { after, traits } => {
-            let token = read_after(alloc, after, &query)?;
-            Ok(Wanted::Rows(query, token, traits))
+        Command::List { after, at, traits } => {
+            Ok(Wanted::Rows(read_page(alloc, cloud, query, after, at)?, traits))
         }
         Command::Fill { sum } => Ok(Wanted::Fill(query, sum)),
         Command::Verify { token } => {

@@ -170,7 +170,10 @@ struct Case {
 // The tokens of no candidate.
 const TOKENS: Case = Case {
     rows: ONE,
-    command: Command::Tokens { after: None },
+    command: Command::Tokens {
+        after: None,
+        at: None,
+    },
     query: "resources=VCPU:2",
     version: Version::V136,
     output: "",
@@ -187,6 +190,7 @@ static ANSWERS: [Case; 12] = [
     Case {
         command: Command::Candidates {
             after: None,
+            at: None,
             traits: true,
         },
         output: ONE_BODY,
@@ -236,6 +240,7 @@ static ANSWERS: [Case; 12] = [
     Case {
         command: Command::List {
             after: None,
+            at: None,
             traits: true,
         },
         output: "#,allocation,resource provider,inventory used/capacity,traits,name\n1,VCPU=2,@1,VCPU=0/8,,\n",
@@ -293,11 +298,16 @@ fn with_text<'a>(command: Command<'static>, text: Option<&'a str>) -> Command<'a
         Command::Check => Command::Check,
         Command::Candidates { traits, .. } => Command::Candidates {
             after: text,
+            at: None,
             traits,
         },
-        Command::Tokens { .. } => Command::Tokens { after: text },
+        Command::Tokens { .. } => Command::Tokens {
+            after: text,
+            at: None,
+        },
         Command::List { traits, .. } => Command::List {
             after: text,
+            at: None,
             traits,
         },
         Command::Fill { sum } => Command::Fill { sum },

@@ -5,6 +5,7 @@
 //! `ac_rules`, handed on.
 #![tactic(auto)]
 
+mod at;
 mod fault;
 mod hosts;
 pub mod laws;

@@ -138,8 +138,8 @@ impl<'a> Walk<'a> {
         Walk::begin(alloc, cloud, query, None, Some(roots))
     }
 
-    // Begins with the first list after the ids of a token that is looked for.
-    fn begin(
+    /// Begins with the first list after the ids of a token that is looked for.
+    pub(crate) fn begin(
         alloc: Global,
         cloud: &'a Cloud,
         query: &'a Query,

@@ -1,14 +1,14 @@
 -- The words of a line, cut off one by one.
-use Rattle.std.proofs.Common.{◌≡◌, ◌<◌, ℕ, List, [], ◌∷◌, None, Some, Bool, true, false, nat_lt, length, Option, option_map, if◌then◌else◌, refl, sym, ap, ◌∙◌, arith}
+use Rattle.std.proofs.Common.{codes, ◌≡◌, ◌<◌, ℕ, List, [], ◌∷◌, None, Some, Bool, true, false, nat_lt, length, Option, option_map, if◌then◌else◌, refl, sym, ap, ◌∙◌, arith}
 use Rattle.std.specs.List.{after_first, before_first, position_or_len}
 use Rattle.std.proofs.lemmas.List.Splits.{length-slice_split, slice_split_first, slice_split_none}
 use Rattle.std.proofs.lemmas.List.Sums.{fails_before_first}
 use Rattle.std.proofs.lemmas.Bool.Decides.{nat_tests}
 use Rattle.std.proofs.lemmas.Str.{IsUtf8-from_is_utf8, is_utf8-from_IsUtf8}
-use Rattle.std.specs.Str.{IsUtf8, is_utf8}
+use Rattle.std.specs.Str.{IsUtf8, bytes_eq, is_utf8}
 use Rattle.ac_query.specs.declared.version.Version.{Version}
 use Rattle.ac_run.specs.Wanted.Mark.{past_mark}
-use Rattle.ac_session.specs.Questions.{Asked, unknown, wrong_number, asked_by_name, asked_of, asks_alone, behind_blank, is_blank, is_logged, is_passed_over, one_of, one_or_two_of, query_words, two_of, with_query, words_behind, words_of}
+use Rattle.ac_session.specs.Questions.{Asked, unknown, wrong_number, asked_by_name, asked_of, asks_alone, behind_blank, is_blank, is_logged, is_passed_over, one_of, part_of, query_words, search_of, two_of, with_query, words_behind, words_of}
 use Rattle.ac_session.proofs.Leading.Firsts.{before_missed, place_inside}
 
 -- the words of a text are what stands before its first blank, and those behind it
@@ -45,11 +45,6 @@ two_words_at_least text rest found =
 pub logged_alone : (text : List ℕ) → is_logged text ≡ true → query_words (Some text) ≡ past_mark text ∷ []
 logged_alone text logged = ap (λ b. if b then past_mark text ∷ [] else with_query (words_of text)) logged
 
--- a query alone, or with the one word of what stands behind it
-abbrev pub perhaps : List ℕ → Option (List ℕ) → Option (List ℕ × Option (List ℕ))
-perhaps query None = Some (query, None)
-perhaps query (Some rest) = option_map (λ word. (query, Some word)) (one_of (words_of rest))
-
 module _ (text : List ℕ) (own : is_logged text ≡ false) where
   abbrev first : List ℕ
   first = before_first is_blank text
@@ -72,18 +67,42 @@ module _ (text : List ℕ) (own : is_logged text ≡ false) where
       by (word ∷ []) = refl
       by (word ∷ next ∷ others) = refl
 
-  pub query_perhaps_with_word : one_or_two_of (query_words (Some text)) ≡ perhaps (past_mark first) (behind_blank text)
-  query_perhaps_with_word = ap one_or_two_of apart ∙ by (behind_blank text)
-    where
-      by_words : (others : List (List ℕ)) → 0 < length others
-          → one_or_two_of (past_mark first ∷ others) ≡ option_map (λ word. (past_mark first, Some word)) (one_of others)
-      by_words [] some = absurd (omega arith)
-      by_words (word ∷ []) some = refl
-      by_words (word ∷ next ∷ others) some = refl
+  pub query_with_part : search_of (query_words (Some text)) ≡ option_map (λ part. (past_mark first, part.0, part.1)) (part_of (words_behind (behind_blank text)))
+  query_with_part = ap search_of apart
 
-      by : (rest : Option (List ℕ)) → one_or_two_of (past_mark first ∷ words_behind rest) ≡ perhaps (past_mark first) rest
-      by None = refl
-      by (Some rest) = by_words (words_of rest) (some_word rest)
+-- what stands behind a query, word by word
+pub part_alone : (text : List ℕ) → behind_blank text ≡ None → part_of (words_of text) ≡ Some (Some (before_first is_blank text), None)
+part_alone text none = ap part_of (words_split text) ∙ ap (λ rest. part_of (before_first is_blank text ∷ words_behind rest)) none
+
+pub part_more : (text more : List ℕ) → behind_blank text ≡ Some more → part_of (words_of text) ≡ part_of (before_first is_blank text ∷ words_of more)
+part_more text more found = ap part_of (words_split text) ∙ ap (λ rest. part_of (before_first is_blank text ∷ words_behind rest)) found
+
+-- two words, or three, of which the last but one is to be `at`
+abbrev pub host_behind : List ℕ → List ℕ → Option (List ℕ) → Option (Option (List ℕ) × Option (List ℕ))
+host_behind first second None = if bytes_eq first (codes "at") then Some (None, Some second) else None
+host_behind first second (Some rest) = if bytes_eq second (codes "at") then option_map (λ host. (Some first, Some host)) (one_of (words_of rest)) else None
+
+pub part_with_host : (first rest : List ℕ) → part_of (first ∷ words_of rest) ≡ host_behind first (before_first is_blank rest) (behind_blank rest)
+part_with_host first rest = ap (λ words. part_of (first ∷ words)) (words_split rest) ∙ by (behind_blank rest)
+  where
+    second : List ℕ
+    second = before_first is_blank rest
+
+    of_words : Bool → List (List ℕ) → Option (Option (List ℕ) × Option (List ℕ))
+    of_words b words = if b then option_map (λ host. (Some first, Some host)) (one_of words) else None
+
+    too_many : (b : Bool) (host next : List ℕ) (words : List (List ℕ)) → None ≡ of_words b (host ∷ next ∷ words)
+    too_many true host next words = refl
+    too_many false host next words = refl
+
+    by_words : (words : List (List ℕ)) → 0 < length words → part_of (first ∷ second ∷ words) ≡ of_words (bytes_eq second (codes "at")) words
+    by_words [] some = absurd (omega arith)
+    by_words (host ∷ []) some = refl
+    by_words (host ∷ next ∷ words) some = too_many (bytes_eq second (codes "at")) host next words
+
+    by : (more : Option (List ℕ)) → part_of (first ∷ second ∷ words_behind more) ≡ host_behind first second more
+    by None = refl
+    by (Some more) = by_words (words_of more) (some_word more)
 
 pub not_alone : (text : List ℕ) (asked : Asked) → asks_alone (words_of text) asked ≡ wrong_number
 not_alone text asked = by (words_of text) (some_word text)

@@ -72,16 +72,16 @@ explanation_none all asked may = elim may [
 
 search_none : (asks : Command) (version : Version) (all : List Provider) (asked : Query) → SearchMayStop asks version None all asked → ⊥
 search_none command.check version all asked may = may
-search_none (command.candidates after traits) version all asked may = may
-search_none (command.tokens after) version all asked may = may
-search_none (command.list after traits) version all asked may = may
+search_none (command.candidates after at traits) version all asked may = may
+search_none (command.tokens after at) version all asked may = may
+search_none (command.list after at traits) version all asked may = may
 search_none (command.fill sum) version all asked may = may
 search_none (command.verify token) version all asked may = may
 search_none command.explain version all asked may = explanation_none all asked may
 search_none (command.hosts sum within) version all asked may = may
 search_none (command.why host) version all asked may = may
 search_none (command.capacity flavors metrics) version all asked may = may.2
-search_none (command.audit zone) version all asked may = may
+search_none (command.audit _) version all asked may = may
 
 asked_none : (version : Version) (world : World) (asked : Asked) → AskedMayStop None version world asked → ⊥
 asked_none version world (job task) may = search_none task.command task.version world.providers _ may.0

@@ -2,7 +2,7 @@
 use Rattle.std.proofs.Common.{◌≡◌, ◌∙◌, ℕ, ◌<◌, ◌≤◌, length, arith, inl, inr, nat_le, if◌then◌else◌, Bool, true, false, List, [], Option, Some, None, refl, sym, ap, ap₂, subst}
 use Rattle.std.specs.List.{All}
 use Rattle.std.specs.Option.{IfSome, option_map, unwrap_or}
-use Rattle.std.specs.Prelude.{Result, Err}
+use Rattle.std.specs.Prelude.{Result, Err, is_some}
 use Rattle.std.proofs.lemmas.Bool.{cases_Bool, lt-leb}
 use Rattle.std.proofs.lemmas.List.Elements.{All-from_recursion}
 use Rattle.ac_cloud.specs.World.{Provider, World}
@@ -24,7 +24,7 @@ use Rattle.ac_rules.specs.Placed.{Placed, assigned}
 use Rattle.ac_rules.specs.declared.verdict.Verdict.{Verdict}
 use Rattle.ac_rules.specs.declared.verdict.Verdict.TheVariants as verdict
 use Rattle.ac_run.proofs.Assignments.{located}
-use Rattle.ac_run.proofs.Attempted.{asks_query}
+use Rattle.ac_run.proofs.Attempted.{asks_query, host_refused}
 use Rattle.ac_run.specs.Answer.{Outcome, Says, answer_in, past_query, refused}
 use Rattle.ac_run.specs.Outputs.{fill_status}
 use Rattle.ac_run.specs.Refusals.{line_of_asked, status_of_asked}
@@ -59,9 +59,9 @@ delivers_stopped done = record { few = done.few; ok = done.ok; part = done.part;
 -- nothing is refused that is searched for
 pub not_refused : (wanted : Wanted) (tries : Option ℕ) (world : World) → AnswerMayStop wanted tries world.providers → (answer_to wanted world).line ≡ []
 not_refused wanted.Counts tries world may = absurd may
-not_refused (wanted.Body query token traits) tries world may = refl
-not_refused (wanted.Lines query token) tries world may = refl
-not_refused (wanted.Rows query token traits) tries world may = refl
+not_refused (wanted.Body page traits) tries world may = refl
+not_refused (wanted.Lines page) tries world may = refl
+not_refused (wanted.Rows page traits) tries world may = refl
 not_refused (wanted.Fill query sum) tries world may = refl
 not_refused (wanted.Verdict query token detail) tries world may = absurd may
 not_refused (wanted.Explanation question) tries world may = refl
@@ -89,7 +89,8 @@ token_refused version query token asked ask.NoMemory q e h say told = absurd (to
 pub wanted_refused : (task : Task) (world : World) (refusal : AskRefusal) → ExplainsWanted task world refusal → IsRefusal refusal (answer_in task world)
 wanted_refused task world (ask.Query f) h told = asks_query task.command _ task.version task.query world h.0 ∙ rw (h.1.2, h.1.1) refl
 wanted_refused task world (ask.Token f) h told = asks_query task.command _ task.version task.query world h.0 ∙ rw (h.1, h.2) refl
-wanted_refused task world (ask.Host f) h told = asks_query task.command _ task.version task.query world h.0 ∙ rw (h.1, h.2.1, h.2.2) refl
+wanted_refused task world (ask.Host f) h told =
+    asks_query task.command _ task.version task.query world h.0 ∙ rw h.1 (host_refused task.command (is_some task.detail) world (asked_by task.version (pairs_of task.query)) h.2.0 f h.2.1 h.2.2 h.2.3)
 wanted_refused task world (ask.Flavors f) h told = rw (h.2, h.3) refl
 wanted_refused task world ask.NoMemory h told = absurd (told refl)
 

@@ -4,22 +4,22 @@ use Rattle.std.specs.List.{flat_map}
 
 abbrev pub help_lines : List (List ℕ)
 help_lines =
-    codes "check                     how many rows each table has\n"
-    ∷ codes "tokens QUERY [TOKEN]      the allocation candidates, or those after a token, one a line\n"
-    ∷ codes "candidates QUERY [TOKEN]  the same as JSON, with summaries of their providers\n"
-    ∷ codes "list QUERY [TOKEN]        the same as a table\n"
-    ∷ codes "explain QUERY             how far the query comes, and why there is no candidate\n"
-    ∷ codes "hosts QUERY               which roots fit, and what the others lack\n"
-    ∷ codes "why QUERY HOST            what the providers of a host lack\n"
-    ∷ codes "verify QUERY TOKEN        whether a token is a candidate\n"
-    ∷ codes "count QUERY               how many more of the same fit\n"
-    ∷ codes "fill QUERY                places the same again and again, and claims each placement\n"
-    ∷ codes "claim QUERY TOKEN         claims a candidate\n"
-    ∷ codes "release QUERY TOKEN       gives back what a claim took\n"
-    ∷ codes "left [HOST]               what is left of each inventory, or of those of a host's tree\n"
-    ∷ codes "usages                    what is used, as a table\n"
-    ∷ codes "audit                     what is amiss in the cloud\n"
-    ∷ codes "help                      these lines\n"
+    codes "check                               how many rows each table has\n"
+    ∷ codes "tokens QUERY [TOKEN] [at HOST]      the allocation candidates, one a line: all, or those after a token, or of a host\n"
+    ∷ codes "candidates QUERY [TOKEN] [at HOST]  the same as JSON, with summaries of their providers\n"
+    ∷ codes "list QUERY [TOKEN] [at HOST]        the same as a table\n"
+    ∷ codes "explain QUERY                       how far the query comes, and why there is no candidate\n"
+    ∷ codes "hosts QUERY                         which roots fit, and what the others lack\n"
+    ∷ codes "why QUERY HOST                      what the providers of a host lack\n"
+    ∷ codes "verify QUERY TOKEN                  whether a token is a candidate\n"
+    ∷ codes "count QUERY                         how many more of the same fit\n"
+    ∷ codes "fill QUERY                          places the same again and again, and claims each placement\n"
+    ∷ codes "claim QUERY TOKEN                   claims a candidate\n"
+    ∷ codes "release QUERY TOKEN                 gives back what a claim took\n"
+    ∷ codes "left [HOST]                         what is left of each inventory, or of those of a host's tree\n"
+    ∷ codes "usages                              what is used, as a table\n"
+    ∷ codes "audit                               what is amiss in the cloud\n"
+    ∷ codes "help                                these lines\n"
     ∷ []
 
 unfoldable pub help_text : List ℕ

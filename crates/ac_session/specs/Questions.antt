@@ -56,11 +56,18 @@ abbrev pub two_of : List Text → Option (Text × Text)
 two_of (first ∷ second ∷ []) = Some (first, second)
 two_of words = None
 
--- the first word, and the second if there is one, where there are no more
-abbrev pub one_or_two_of : List Text → Option (Text × Option Text)
-one_or_two_of (first ∷ []) = Some (first, None)
-one_or_two_of (first ∷ second ∷ []) = Some (first, Some second)
-one_or_two_of words = None
+-- what stands behind a query: perhaps a token to begin after, and perhaps a host behind `at`
+abbrev pub part_of : List Text → Option (Option Text × Option Text)
+part_of [] = Some (None, None)
+part_of (after ∷ []) = Some (Some after, None)
+part_of (at ∷ host ∷ []) = if bytes_eq at (codes "at") then Some (None, Some host) else None
+part_of (after ∷ at ∷ host ∷ []) = if bytes_eq at (codes "at") then Some (Some after, Some host) else None
+part_of words = None
+
+-- a query, with what stands behind it
+abbrev pub search_of : List Text → Option (Text × Option Text × Option Text)
+search_of [] = None
+search_of (query ∷ words) = option_map (λ part. (query, part.0, part.1)) (part_of words)
 
 -- ---- what they ask
 
@@ -91,9 +98,9 @@ abbrev pub asks_alone : List Text → Asked → Asked
 asks_alone [] asked = asked
 asks_alone (word ∷ words) asked = wrong_number
 
--- a query, perhaps with the token to begin after
-abbrev pub asks_search : (Option Text → Command) → Version → List Text → Asked
-asks_search command version words = asks (one_or_two_of words) (λ p. asks_job (command p.1) p.0 version)
+-- a query, perhaps with the token to begin after, and with a host at whose root candidates are to stand
+abbrev pub asks_search : (Option Text → Option Text → Command) → Version → List Text → Asked
+asks_search command version words = asks (search_of words) (λ p. asks_job (command p.1 p.2) p.0 version)
 
 -- a query alone
 abbrev pub asks_query : Command → Version → List Text → Asked
@@ -125,9 +132,9 @@ abbrev pub asked_by_name : Version → Text → Option Text → Asked
 asked_by_name version name rest =
     let words = query_words rest in
     if bytes_eq name (codes "check") then asks_alone (words_behind rest) (asks_job check [] V136)
-    else if bytes_eq name (codes "candidates") then asks_search (λ after. candidates after true) version words
+    else if bytes_eq name (codes "candidates") then asks_search (λ after at. candidates after at true) version words
     else if bytes_eq name (codes "tokens") then asks_search tokens version words
-    else if bytes_eq name (codes "list") then asks_search (λ after. list after true) version words
+    else if bytes_eq name (codes "list") then asks_search (λ after at. list after at true) version words
     else if bytes_eq name (codes "fill") then asks_fill words
     else if bytes_eq name (codes "count") then asks_query (task.fill true) version words
     else if bytes_eq name (codes "verify") then asks_about verify version words

@@ -1,8 +1,8 @@
 //! The question that a line asks.
-ghost use Rattle.std.specs.Prelude.{◌≡◌, true, option_map};
+ghost use Rattle.std.specs.Prelude.{◌≡◌, ◌∷◌, true, option_map};
 ghost use Rattle.std.specs.List.{before_first, list_any};
 ghost use Rattle.ac_run.specs.Tasks.{candidates, command_shown, list, tokens, verify, why};
-ghost use Rattle.ac_session.specs.Questions.{asked_by_name, asked_in, asked_of, asks_about, asks_alone, asks_claim, asks_fill, asks_job, asks_left, asks_query, asks_release, asks_search, behind_blank, is_blank, is_logged, is_passed_over, one_of, one_or_two_of, query_words, two_of, words_behind};
+ghost use Rattle.ac_session.specs.Questions.{asked_by_name, asked_in, asked_of, asks_about, asks_alone, asks_claim, asks_fill, asks_job, asks_left, asks_query, asks_release, asks_search, behind_blank, is_blank, is_logged, is_passed_over, one_of, part_of, query_words, search_of, two_of, words_behind, words_of};
 
 use ac_query::Version;
 use ac_run::{Command, Job, has_path, past_mark};
@@ -98,22 +98,49 @@ fn query_and_word(rest: Option<&str>) -> Option<(&str, &str)>
     Some((past_mark(query), word))
 }
 
-// The query of a rest, and one word more if there is one, where they are all.
-#[tactic(auto, using(crate::proofs::Cuts::logged_alone, crate::proofs::Cuts::query_perhaps_with_word))]
-fn query_and_perhaps_word(rest: Option<&str>) -> Option<(&str, Option<&str>)>
-    ensures { option_map (λ p. (p.0.now, option_map (λ t. t.now) p.1)) result
-        ≡ one_or_two_of (query_words (option_map (λ t. t.now) rest.entry)) }
+// Two words, or three, of which the last is a host behind `at`, and the first of three a token.
+#[tactic(auto, using(crate::proofs::Cuts::part_with_host))]
+fn part_with_host<'a>(first: &'a str, rest: &'a str) -> Option<(Option<&'a str>, Option<&'a str>)>
+    ensures { option_map (λ p. (option_map (λ t. t.now) p.0, option_map (λ t. t.now) p.1)) result
+        ≡ part_of (first.now ∷ words_of rest.now) }
+{
+    match cut(rest) {
+        (host, None) if first == "at" => Some((None, Some(host))),
+        (second, Some(rest)) if second == "at" => {
+            let host = one_word(Some(rest))?;
+            Some((Some(first), Some(host)))
+        }
+        _ => None,
+    }
+}
+
+// What stands behind a query: perhaps a token to begin after, and perhaps a host behind `at`.
+#[tactic(auto, using(crate::proofs::Cuts::part_alone, crate::proofs::Cuts::part_more))]
+fn part(rest: Option<&str>) -> Option<(Option<&str>, Option<&str>)>
+    ensures { option_map (λ p. (option_map (λ t. t.now) p.0, option_map (λ t. t.now) p.1)) result
+        ≡ part_of (words_behind (option_map (λ t. t.now) rest.entry)) }
+{
+    let Some(rest) = rest else {
+        return Some((None, None));
+    };
+    match cut(rest) {
+        (first, None) => Some((Some(first), None)),
+        (first, Some(rest)) => part_with_host(first, rest),
+    }
+}
+
+// The query of a rest, with what stands behind it.
+#[tactic(auto, using(crate::proofs::Cuts::logged_alone, crate::proofs::Cuts::query_with_part))]
+fn search(rest: Option<&str>) -> Option<(&str, Option<&str>, Option<&str>)>
+    ensures { option_map (λ p. (p.0.now, option_map (λ t. t.now) p.1, option_map (λ t. t.now) p.2))
+        result ≡ search_of (query_words (option_map (λ t. t.now) rest.entry)) }
 {
     if is_logged(rest?) {
-        return Some((past_mark(rest?), None));
+        return Some((past_mark(rest?), None, None));
     }
-    match cut(rest?) {
-        (query, None) => Some((past_mark(query), None)),
-        (query, Some(rest)) => {
-            let word = one_word(Some(rest))?;
-            Some((past_mark(query), Some(word)))
-        }
-    }
+    let (query, rest) = cut(rest?);
+    let (after, at) = part(rest)?;
+    Some((past_mark(query), after, at))
 }
 
 // What the words behind a name ask, where there is to be none.
@@ -141,15 +168,16 @@ fn job<'a>(command: Command<'a>, query: &'a str, version: Version) -> Question<'
     })
 }
 
-// The candidates for a query, perhaps from a token on.
+// The candidates for a query, perhaps from a token on, and perhaps at a host.
 fn candidates(version: Version, rest: Option<&str>) -> Question<'_>
-    ensures { asked_in result ≡ asks_search (λ after. candidates after true) version
+    ensures { asked_in result ≡ asks_search (λ after at. candidates after at true) version
         (query_words (option_map (λ t. t.now) rest.entry)) }
 {
-    match query_and_perhaps_word(rest) {
-        Some((query, after)) => job(
+    match search(rest) {
+        Some((query, after, at)) => job(
             Command::Candidates {
                 after,
+                at,
                 traits: true,
             },
             query,
@@ -164,21 +192,22 @@ fn tokens(version: Version, rest: Option<&str>) -> Question<'_>
     ensures { asked_in result ≡ asks_search tokens version
         (query_words (option_map (λ t. t.now) rest.entry)) }
 {
-    match query_and_perhaps_word(rest) {
-        Some((query, after)) => job(Command::Tokens { after }, query, version),
+    match search(rest) {
+        Some((query, after, at)) => job(Command::Tokens { after, at }, query, version),
         None => Question::WrongNumber,
     }
 }
 
 // Their rows.
 fn list(version: Version, rest: Option<&str>) -> Question<'_>
-    ensures { asked_in result ≡ asks_search (λ after. list after true) version
+    ensures { asked_in result ≡ asks_search (λ after at. list after at true) version
         (query_words (option_map (λ t. t.now) rest.entry)) }
 {
-    match query_and_perhaps_word(rest) {
-        Some((query, after)) => job(
+    match search(rest) {
+        Some((query, after, at)) => job(
             Command::List {
                 after,
+                at,
                 traits: true,
             },
             query,

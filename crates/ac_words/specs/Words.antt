@@ -70,7 +70,7 @@ check_app = with_common (new_app (codes "check"))
 
 -- a command that writes candidates
 abbrev pub search_app : Text → App
-search_app name = with_rule (with_tries (query_app name)) (option_rule (codes "after"))
+search_app name = with_rule (with_rule (with_tries (query_app name)) (option_rule (codes "after"))) (option_rule (codes "at"))
 
 -- a command that writes candidates with what is told of their providers
 abbrev pub shown_app : Text → App
@@ -286,6 +286,10 @@ asking rows command = option_map (λ query. job command (past_mark query)) (firs
 abbrev pub after_of : List Row → Option Text
 after_of rows = first_of (codes "after") rows
 
+-- the host at whose root candidates are to stand
+abbrev pub at_of : List Row → Option Text
+at_of rows = first_of (codes "at") rows
+
 -- whether traits are written: where they aren't left out
 abbrev pub traits_of : List Row → Bool
 traits_of rows = not (is_set (first_of (codes "no-traits") rows))
@@ -297,9 +301,9 @@ sum_of rows = is_set (first_of (codes "sum") rows)
 -- what the entries of a command call for; none where one that it needs isn't there
 unfoldable pub call_of : Name → List Row → Option Call
 call_of name.Check rows = Some (job check [])
-call_of name.Candidates rows = asking rows (candidates (after_of rows) (traits_of rows))
-call_of name.Tokens rows = asking rows (tokens (after_of rows))
-call_of name.List rows = asking rows (list (after_of rows) (traits_of rows))
+call_of name.Candidates rows = asking rows (candidates (after_of rows) (at_of rows) (traits_of rows))
+call_of name.Tokens rows = asking rows (tokens (after_of rows) (at_of rows))
+call_of name.List rows = asking rows (list (after_of rows) (at_of rows) (traits_of rows))
 call_of name.Fill rows = asking rows (fill (sum_of rows))
 call_of name.Verify rows = option_and_then (λ token. asking rows (verify token)) (first_of (codes "token") rows)
 call_of name.Explain rows = asking rows explain

@@ -11,7 +11,10 @@ fn accepted(rt: HostRuntime) {
     let Ok(given) = words_of(rt.alloc(), line) else {
         return;
     };
-    let command = Command::Tokens { after: Some("t") };
+    let command = Command::Tokens {
+        after: Some("t"),
+        at: None,
+    };
     match read_words(rt.alloc(), given.as_slice()) {
         Ok(words) => {
             assert!(rt; asks(&words, command, "q", Version::V139));

@@ -7,6 +7,7 @@ ghost use Rattle.ac_fill.specs.Filled.{asks_units};
 ghost use Rattle.ac_fill.specs.Found.{short_entry};
 ghost use Rattle.ac_prune.specs.Fitting.{fitting};
 ghost use Rattle.ac_query.specs.Shown.Queries.{asked_of};
+ghost use Rattle.ac_rules.specs.Pages.{rest};
 ghost use Rattle.ac_run.specs.Answer.{fills};
 ghost use Rattle.ac_run.specs.Capacity.{placed_first};
 ghost use Rattle.ac_run.specs.Outputs.{counted, fill_status};
@@ -14,13 +15,12 @@ ghost use Rattle.ac_run.specs.Run.{Delivers};
 ghost use Rattle.ac_search.specs.Shown.Walk.{MayStop};
 ghost use Rattle.ac_search.specs.declared.fault.SearchFault.TheVariants as fault;
 
-use crate::answer::walk_after;
 use crate::outputs::{push_text, sum_line};
-use ac_base::Sink;
+use ac_base::{NoMemory, Sink};
 use ac_fill::{Bound, count_filled, write_filled};
 use ac_query::Query;
 use ac_report::PageFault;
-use ac_search::{SearchFault, fitting_roots};
+use ac_search::{SearchFault, Source, Walk, fitting_roots};
 use ac_tables::Cloud;
 use std::alloc::Global;
 
@@ -30,6 +30,21 @@ pub fn fill_status(limit: Option<u32>, count: u32) -> u8
     ensures said { (ts : List (List ℕ)) → count ≡ counted ts → result ≡ fill_status limit ts }
 {
     if count >= limit.unwrap_or(1) { 0 } else { 1 }
+}
+
+// All candidates of a query, in so many tries.
+fn walk_all<'a>(
+    alloc: Global,
+    cloud: &'a Cloud,
+    query: &'a Query,
+    tries: Option<u64>,
+) -> Result<Walk<'a>, NoMemory>
+    ensures left { IfOk result (λ walk. ⟦<Walk<'a> as Source>⟧.left walk
+        ≡ rest (providers_of cloud.now) (asked_of query.now) None) }
+    ensures stops { IfOk result (λ walk. ⟦<Walk<'a> as Source>⟧.may_stop walk
+        → MayStop tries (providers_of cloud.now) (asked_of query.now) None) }
+{
+    Ok(Walk::new(alloc, cloud, query, None)?.within(tries))
 }
 
 // The tokens of placements.
@@ -46,7 +61,7 @@ fn write_placements<W: Sink>(
         (MayStop tries (providers_of cloud.now) (asked_of query.now) None) result
         (W.taken out.old) (W.taken out.new) (W.failures out.old) (W.failures out.new) }
 {
-    let mut source = walk_after(alloc, cloud, query, &None, tries)?;
+    let mut source = walk_all(alloc, cloud, query, tries)?;
     let filled = write_filled(alloc, cloud, query, &mut source, out)?;
     Ok(fill_status(query.limit(), filled.count))
 }
@@ -80,7 +95,7 @@ impl<'a> Holding<'a> {
         ensures stopped { result ≡ Err fault.TooManyTries
             → MayStop tries (providers_of cloud.now) (asked_of query.now) None }
     {
-        let mut source = walk_after(alloc, cloud, query, &None, tries)?;
+        let mut source = walk_all(alloc, cloud, query, tries)?;
         let filled = count_filled(alloc, cloud, query, None, &mut source)?;
         let fits = fitting_roots(alloc, cloud, query, tries)?;
         let bound = Bound::new(alloc, cloud, query, &fits)?;

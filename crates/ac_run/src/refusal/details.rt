@@ -1,15 +1,15 @@
 //! What stands behind the line of a refusal where more is told: what is to be done.
 ghost use Rattle.std.specs.Prelude.{◌≡◌, IfOk, None};
-ghost use Rattle.ac_run.specs.Details.{asked_remedy, behind, fault_remedy, host_in, path_in, reading_remedy};
+ghost use Rattle.ac_run.specs.Details.{asked_remedy, behind, fault_remedy, path_in, reading_remedy};
 ghost use Rattle.ac_run.specs.Flavors.{why_shown};
 ghost use Rattle.ac_run.specs.Feeds.Draining.{texts_shown};
 ghost use Rattle.ac_run.specs.Feeds.{too_large};
 ghost use Rattle.ac_run.specs.Wanted.Given.{tables_in};
 ghost use Rattle.ac_run.specs.declared.refusal.AskRefusal.TheVariants as AskRefusal;
-ghost use Rattle.ac_run.specs.Tasks.{command_shown, detail_shown, paths_shown, task_of};
+ghost use Rattle.ac_run.specs.Tasks.{detail_shown, paths_shown, task_of};
 
 use crate::inputs::Texts;
-use crate::job::{Command, Job, Paths};
+use crate::job::{Job, Paths};
 use crate::ready::sources_of;
 use crate::refusal::lines::push_query_line;
 use crate::refusal::{AskRefusal, FlavorsRefusal, TablesRefusal};
@@ -87,16 +87,6 @@ fn token_detail(alloc: Global, job: &Job, fault: TokenFault) -> Result<Vec<u8>, 
     }
 }
 
-// The host that a command asks about.
-fn host_of<'a>(command: Command<'a>) -> &'a str
-    ensures { result.now ≡ host_in (command_shown command.entry) }
-{
-    match command {
-        Command::Why { host } => host,
-        _ => "",
-    }
-}
-
 // Of a table of flavors: the line of its query's fault.
 fn flavors_detail(alloc: Global, refusal: &FlavorsRefusal) -> Result<Vec<u8>, AllocError>
     ensures text { IfOk result (λ text. text.items ≡ (why_shown refusal.now).detail) }
@@ -124,7 +114,7 @@ pub(crate) fn asked_detail(
     match refusal {
         AskRefusal::Query(fault) => query_remedy(alloc, job.query, job.version, fault),
         AskRefusal::Token(fault) => token_detail(alloc, job, *fault),
-        AskRefusal::Host(fault) => host_remedy(alloc, host_of(job.command), *fault),
+        AskRefusal::Host(fault) => host_remedy(alloc, job.command.host().unwrap_or(""), *fault),
         AskRefusal::Flavors(refusal) => flavors_detail(alloc, refusal),
         AskRefusal::NoMemory => Ok(Vec::new(alloc)),
     }

@@ -17,6 +17,7 @@ const ONE_TOKEN: Case = Case {
 const BODY: Case = Case {
     command: Command::Candidates {
         after: None,
+        at: None,
         traits: true,
     },
     output: ONE_BODY,

@@ -168,7 +168,10 @@ static FAULTS: [Case; 4] = [
         ..TOKENS
     },
     Case {
-        command: Command::Tokens { after: Some("@1") },
+        command: Command::Tokens {
+            after: Some("@1"),
+            at: None,
+        },
         line: "token: WrongLength\n",
         status: 5,
         ..PAIR
@@ -209,6 +212,7 @@ static WHAT_TO_DO: [Case; 6] = [
     Case {
         command: Command::Tokens {
             after: Some("@1,@1"),
+            at: None,
         },
         line: "token: WrongLength\n  UUIDs 2, slots 1: one for each of VCPU, in this order\n",
         status: 5,

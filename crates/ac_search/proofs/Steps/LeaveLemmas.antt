@@ -94,6 +94,32 @@ stands_alone all marks r are t h = elim (cases_Bool (stand_at all t r)) [
       ]))) ∙ h))
 ]
 
+-- what stands at a root that is marked alone, where a test holds, stands there where the test holds
+only_marked : (all : List Provider) (marks : List Bool) (r : ℕ) (b : Bool) → r < length all → marks ≡ map (λ q. (q == r) && b) (range_with_len 0 (length all))
+    → (t : List ℕ) → stand_at_marked all marks t ≡ (b && stand_at all t r)
+unfolding stand_at_marked
+only_marked all marks r b low are t = elim (cases_Bool (b && stand_at all t r)) [
+  | inl both ↦
+      let parts = and_parts b (stand_at all t r) both in
+      let marked : slice_index_or marks r false ≡ true = rw are (mapped_at (λ q. (q == r) && b) (length all) r low) ∙ and_from (r == r) b (eq-eqb r r refl) parts.0 in
+      marked_stands all marks r low marked t parts.1 ∙ sym both
+  | inr away ↦ any_false (λ q. slice_index_or marks q false && stand_at all t q) (range_with_len 0 (length all)) (at_each (length all) _ (λ q inside.
+      let is : slice_index_or marks q false ≡ ((q == r) && b) = rw are (mapped_at (λ q. (q == r) && b) (length all) q inside) in
+      elim (cases_eq q r) [
+        | inl e ↦ rw (is, e, eq-eqb r r refl) away
+        | inr e ↦ rw (is, ne_eqb q r e) refl
+      ])) ∙ sym away
+]
+
+same_filter : {X : Type 0} (f g : X → Bool) → ((x : X) → f x ≡ g x) → (xs : List X) → filter f xs ≡ filter g xs
+same_filter f g same [] = refl
+same_filter f g same (x ∷ xs) = grind (arith, same x, same_filter f g same xs)
+
+-- of some lists those stand at it that stand at a marked root
+pub standing_only : (all : List Provider) (marks : List Bool) (r : ℕ) (b : Bool) → r < length all → marks ≡ map (λ q. (q == r) && b) (range_with_len 0 (length all))
+    → (ts : List (List ℕ)) → filter (stand_at_marked all marks) ts ≡ filter (λ t. b && stand_at all t r) ts
+standing_only all marks r b low are ts = same_filter (stand_at_marked all marks) (λ t. b && stand_at all t r) (only_marked all marks r b low are) ts
+
 -- a root that the query takes and that is marked alone fits exactly where a candidate is left
 pub fits_alone : (all : List Provider) (asked : Asked) (marks : List Bool) (r : ℕ) → r < length all → marks ≡ map (λ q. q == r) (range_with_len 0 (length all)) → takes_root all asked r ≡ true
     → (old new : Walk) (b : Bool) → left_of old ≡ filter (stand_at_marked all marks) (candidates all asked) → MatchBool b (Advances old new) (Finishes old new) → b ≡ fits_at all asked r

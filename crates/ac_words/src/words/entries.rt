@@ -1,8 +1,8 @@
 //! What the matches of `clap` hold.
 ghost use Rattle.std.specs.Prelude.{◌≡◌, ◌∷◌, IfErr, IfOk, OnOk, Some, [], option_map, true};
-ghost use Rattle.ac_run.specs.Tasks.{command_shown};
+ghost use Rattle.ac_run.specs.Tasks.{candidates, command_shown, list, tokens};
 ghost use Rattle.clap.specs.Words.{first_of, found_of, rows_of, subcommand_rows_of};
-ghost use Rattle.ac_words.specs.Words.{IsMadeOf, Says, Tells, asking, call_of, call_shown, command_found, is_complete, is_set, option_kinds, own_faults, tries_kinds, tries_named, tries_of, version_kinds, version_named, version_of, within_in, aggregate_kinds, aggregate_named, aggregate_of, aggregates_kinds};
+ghost use Rattle.ac_words.specs.Words.{IsMadeOf, Says, Tells, after_of, asking, at_of, call_of, call_shown, command_found, is_complete, is_set, option_kinds, own_faults, traits_of, tries_kinds, tries_named, tries_of, version_kinds, version_named, version_of, within_in, aggregate_kinds, aggregate_named, aggregate_of, aggregates_kinds};
 
 use super::tables::paths;
 use super::{Call, WordFault, Words, fault_of, grammar};
@@ -55,18 +55,58 @@ fn within(entries: &ArgMatches<'_>) -> Option<u128>
     aggregate_named(entry(entries, "in")).flatten()
 }
 
+// Whether traits are written: where they aren't left out.
+fn traits(entries: &ArgMatches<'_>) -> bool
+    ensures { result ≡ traits_of (rows_of (found_of entries.now)) }
+{
+    !is_set(entries, "no-traits")
+}
+
+// The candidates, perhaps from a token on, and perhaps at a host.
+fn candidates<'a>(entries: &ArgMatches<'a>) -> Option<Call<'a>>
+    ensures { option_map call_shown result
+        ≡ asking (rows_of (found_of entries.now)) (candidates (after_of (rows_of (found_of entries.now)))
+        (at_of (rows_of (found_of entries.now))) (traits_of (rows_of (found_of entries.now)))) }
+{
+    let after = entry(entries, "after");
+    let at = entry(entries, "at");
+    let traits = traits(entries);
+    asking(entries, Command::Candidates { after, at, traits })
+}
+
+// Their tokens.
+fn tokens<'a>(entries: &ArgMatches<'a>) -> Option<Call<'a>>
+    ensures { option_map call_shown result
+        ≡ asking (rows_of (found_of entries.now)) (tokens (after_of (rows_of (found_of entries.now)))
+        (at_of (rows_of (found_of entries.now)))) }
+{
+    let after = entry(entries, "after");
+    let at = entry(entries, "at");
+    asking(entries, Command::Tokens { after, at })
+}
+
+// Their rows.
+fn list<'a>(entries: &ArgMatches<'a>) -> Option<Call<'a>>
+    ensures { option_map call_shown result
+        ≡ asking (rows_of (found_of entries.now)) (list (after_of (rows_of (found_of entries.now)))
+        (at_of (rows_of (found_of entries.now))) (traits_of (rows_of (found_of entries.now)))) }
+{
+    let after = entry(entries, "after");
+    let at = entry(entries, "at");
+    let traits = traits(entries);
+    asking(entries, Command::List { after, at, traits })
+}
+
 // What the entries of a command call for; none where one that it needs isn't there.
 #[tactic(auto, unfolding(crate::specs::Words::call_of))]
 fn call<'a>(name: Name, entries: &ArgMatches<'a>) -> Option<Call<'a>>
     ensures { option_map call_shown result ≡ call_of name (rows_of (found_of entries.now)) }
 {
-    let after = entry(entries, "after");
-    let traits = !is_set(entries, "no-traits");
     match name {
         Name::Check => Some(Call::Job(Command::Check, "")),
-        Name::Candidates => asking(entries, Command::Candidates { after, traits }),
-        Name::Tokens => asking(entries, Command::Tokens { after }),
-        Name::List => asking(entries, Command::List { after, traits }),
+        Name::Candidates => candidates(entries),
+        Name::Tokens => tokens(entries),
+        Name::List => list(entries),
         Name::Fill => {
             let sum = is_set(entries, "sum");
             asking(entries, Command::Fill { sum })

@@ -191,11 +191,17 @@ fn search<'a>(
     ensures local { IfOk result (λ c. (fields_of c).has_globals ≡ false) }
 {
     let command = add_tries(alloc, with_query(alloc, name, about, usage, below)?)?;
-    command.arg(option(
+    let command = command.arg(option(
         alloc,
         "after",
         "TOKEN",
         "Begins after this candidate, written as `tokens` writes it",
+    ))?;
+    command.arg(option(
+        alloc,
+        "at",
+        "HOST",
+        "Only the candidates of one host: all their providers are of its tree, or share with it",
     ))
 }
 

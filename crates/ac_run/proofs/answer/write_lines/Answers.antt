@@ -12,6 +12,6 @@ use Rattle.ac_run.proofs.answer.write_lines.Goals as goal
 pub returns-in_err-write_tokens : goal.returns-in_err-write_tokens
 returns-in_err-write_tokens g c =
     let all = providers_of c.args.cloud.now in
-    let asked = asked_of c.args.query.now in
-    breaks_off (page_lines all asked (option_map ids_of c.args.token.now)) c.from_residual-in_err-write_tokens.result (ap (λ (lists : List (List ℕ)). lines all (cut asked.limit lists)) (sym c.in_ok-source.ensures.left)) c.in_ok-source.ensures.stops
+    let asked = asked_of c.args.page.now.query in
+    breaks_off (page_lines all c.args.page.now.root asked (option_map ids_of c.args.page.now.token)) c.from_residual-in_err-write_tokens.result (ap (λ (lists : List (List ℕ)). lines all (cut asked.limit lists)) (sym c.in_ok-source.ensures.left)) c.in_ok-source.ensures.stops
     c.in_err-write_tokens.ensures.writes c.from_residual-in_err-write_tokens.ensures.1

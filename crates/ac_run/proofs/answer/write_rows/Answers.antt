@@ -13,6 +13,6 @@ use Rattle.ac_run.proofs.answer.write_rows.Goals as goal
 pub returns-in_err-write_list : goal.returns-in_err-write_list
 returns-in_err-write_list g c =
     let all = providers_of c.args.cloud.now in
-    let asked = asked_of c.args.query.now in
-    breaks_off (page_rows all c.args.traits asked (option_map ids_of c.args.token.now)) c.from_residual-in_err-write_list.result (ap (λ (lists : List (List ℕ)). list_text (shown_providers c.args.traits all) asked (cut asked.limit lists)) (sym c.in_ok-source.ensures.left)) c.in_ok-source.ensures.stops
+    let asked = asked_of c.args.page.now.query in
+    breaks_off (page_rows all c.args.traits c.args.page.now.root asked (option_map ids_of c.args.page.now.token)) c.from_residual-in_err-write_list.result (ap (λ (lists : List (List ℕ)). list_text (shown_providers c.args.traits all) asked (cut asked.limit lists)) (sym c.in_ok-source.ensures.left)) c.in_ok-source.ensures.stops
     c.in_err-write_list.ensures.writes c.from_residual-in_err-write_list.ensures.1

@@ -1,0 +1,5 @@
+use Rattle.std.proofs.Common.{◌∙◌, refl}
+use Rattle.ac_words.proofs.words.entries.candidates.Goals as goal
+
+pub returns : goal.returns
+returns c = c.asking.ensures ∙ rw (c.entry-after.ensures, c.entry-at.ensures, c.traits-traits.ensures) refl
