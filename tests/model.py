@@ -705,6 +705,41 @@ def release(assignment, query, cloud):
     return 'released\n', 0
 
 
+def claim_as(name, assignment, query, named, cloud):
+    """The same of a claim by name. `named` has what each name stands for: an assignment and its query."""
+    if name in named:
+        return 'in use\n', 1
+    said = claim(assignment, query, cloud)
+    if said == ('claimed\n', 0):
+        named[name] = assignment, query
+    return said
+
+
+def release_name(name, named, cloud):
+    """The same of a release by name. What is released has no name afterwards."""
+    if name not in named:
+        return 'not in use\n', 1
+    said = release(*named[name], cloud)
+    if said == ('released\n', 0):
+        del named[name]
+    return said
+
+
+def move(name, assignment, named, cloud):
+    """The same of a move to an assignment, which is judged where the name's own is released. If that is no candidate then, all is as it was."""
+    if name not in named:
+        return 'not in use\n', 1
+    former, query = named[name]
+    if release(former, query, cloud) != ('released\n', 0):
+        return 'not in use\n', 1
+    said = claim(assignment, query, cloud)
+    if said != ('claimed\n', 0):
+        change(former, query, cloud, 1)
+        return said
+    named[name] = assignment, query
+    return 'moved\n', 0
+
+
 def place_all(query, cloud, limit=None):
     """Claims the first candidate, again and again, until there is none or there are as many as the limit says. The assignments that were claimed."""
     every = list(itertools.product(cloud, repeat=len(list(query.slots()))))

@@ -23,6 +23,7 @@ sys.path += [os.path.join(os.path.dirname(HERE), 'tools'), *(os.path.join(HERE, 
 from audits import drawn_audits
 from cases import AUDIT_HEAD, CAPACITY_HEAD, CHILD, ODD_FLAVORS, ONE, PLANTED, SHARED, SMALL, SOME, TWO_FIT, TWO_SHORT, Case, cuts, full, lines, tables
 from cliffs import cliffs
+from compares import BOTH, MIXED, NO_REQUEST, compares
 from database import database_exports
 from examples import examples
 from export import exports
@@ -50,8 +51,8 @@ INVENTORIES = os.path.join(EXAMPLES, 'inventories.csv')
 CLOUD = os.path.join(EXAMPLES, 'cloud')
 NO_FILE = os.path.join(EXAMPLES, 'no_such_file.csv')
 ONE_HOST = '2b7d9e54-61c8-4f03-8a9d-c4e1b05f3a27\n'
-COMMANDS = 'check', 'candidates', 'tokens', 'list', 'fill', 'verify', 'explain', 'hosts', 'why', 'capacity', 'audit', 'session'
-STATUSES = {'no: rule': 1, 'unknown provider': 1, 'query': 4, 'flavors:': 4, 'token': 5, 'host:': 5, 'output': 6, 'out of memory': 7,
+COMMANDS = 'check', 'candidates', 'tokens', 'list', 'fill', 'verify', 'explain', 'hosts', 'why', 'capacity', 'audit', 'compare', 'session'
+STATUSES = {'no: rule': 1, 'unknown provider': 1, 'query': 4, 'flavors:': 4, 'token': 5, 'host:': 5, 'answer:': 5, 'output': 6, 'out of memory': 7,
             **dict.fromkeys(('providers:', 'inventories:', 'usages:', 'traits:', 'aggregates:'), 3)}
 SHELLS = [shell for shell in ('bash', 'dash', 'zsh') if shutil.which(shell)]
 SECONDS = 60
@@ -184,6 +185,15 @@ WORDS = [
         ('check', []), ('fill', ['resources=VCPU:2']), ('session', []))),
     refused('--prometheus with a value', over(['capacity', NO_FILE, '--prometheus=yes']), "unexpected value 'yes' for '--prometheus' found"),
     refused('--prometheus twice', over(['capacity', NO_FILE, '--prometheus', '--prometheus']), "'--prometheus' cannot be used multiple times"),
+    refused('no answer for compare', over(['compare', 'resources=VCPU:2']), '<ANSWER>', 'Usage: ac_cli compare'),
+    refused('neither a query nor an answer for compare', over(['compare']), '<QUERY>', '<ANSWER>', 'Usage: ac_cli compare'),
+    refused('two answers for compare', over(['compare', 'resources=VCPU:2', NO_FILE, NO_FILE]), f"unexpected argument '{NO_FILE}' found", 'Usage: ac_cli compare'),
+    refused('no tables for compare', ['compare', 'resources=VCPU:2', NO_FILE], '--providers <FILE>\n  --inventories <FILE>', 'Usage: ac_cli compare', '--tables <DIR>'),
+    refused('--detail twice, for compare', over(['compare', '--detail', '--detail']), "'--detail' cannot be used multiple times"),
+    refused('a later microversion for compare', over(['compare', 'resources=VCPU:2', NO_FILE, '--microversion', '1.40']), "invalid value '1.40'", 'Usage: ac_cli compare'),
+    refused('-1 for --tries, for compare', over(['compare', 'resources=VCPU:2', NO_FILE, '--tries=-1']), "invalid value '-1' for '--tries <N>'", 'Usage: ac_cli compare'),
+    *(refused(f'{words[0]} for compare', over(['compare', 'resources=VCPU:2', NO_FILE, *words]), f"unexpected argument '{words[0]}' found", 'Usage: ac_cli compare')
+      for words in (*([name, ONE_HOST.strip()] for name in ('--after', '--at', '--in', '--zone')), ['--sum'], ['--no-traits'], ['--prometheus'])),
     refused('no host for why', over(['why', 'resources=VCPU:2']), '<HOST>', 'Usage: ac_cli why'),
     *(refused(f'{value} for --tries', [*tokens('resources=VCPU:2'), f'--tries={value}'], f"invalid value '{value}' for '--tries <N>'", 'Usage: ac_cli tokens')
       for value in ('', '-1', 'x', '1.5', '2147483648')),
@@ -380,6 +390,7 @@ HOSTS = {'providers': roots(2000), 'inventories': vcpu(2000)}
 LONG_NAMES = '&'.join(f'resources{n}=' + ','.join(f'C{n}_{k}_'.ljust(240, 'C') + ':1' for k in range(4)) for n in range(10, 74)) + '&group_policy=none'
 LONG = (('tokens', 'resources=VCPU:2', HOSTS), ('candidates', 'resources=VCPU:2', HOSTS), ('list', 'resources=VCPU:2', HOSTS), ('fill', 'resources=VCPU:2', HOSTS), ('explain', LONG_NAMES, tables(ONE)), ('hosts', 'resources=VCPU:2', HOSTS))
 
+MANY_REQUESTS = '{"allocation_requests":[' + ','.join(f'{{"allocations":{{"{"x" * 4000}{n}":1}},"mappings":{{}}}}' for n in range(20)) + ']}'
 MANY_FLAVORS = 'flavor,query\n' + ''.join(f'{"x" * 200}{n},resources=VCPU:2\n' for n in range(400))
 
 DEVICES = [
@@ -401,6 +412,10 @@ DEVICES = [
     to_full('audit', over(['audit'])),
     *(made(f'more than is gathered, {name}', words, **cloud) for made in (to_full, to_nobody) for name, words, cloud in (
         ('audit', ['audit'], HOSTS), ('capacity, as metrics', ['capacity', '--prometheus'], {**tables(ONE), 'flavors': MANY_FLAVORS}))),
+    to_full('compare', over(['compare', 'resources=VCPU:2']), answer=NO_REQUEST),
+    to_nobody('compare', over(['compare', 'resources=VCPU:2']), answer=NO_REQUEST),
+    *(made(f'more than is gathered, compare, only {where}', ['compare', 'resources=VCPU:2'], answer=answer, **cloud) for made in (to_full, to_nobody)
+      for where, answer, cloud in (('here', NO_REQUEST, HOSTS), ('the service', lambda: MANY_REQUESTS, tables(ONE)))),
     to_full('why', over(['why', 'resources=VCPU:2', ONE_HOST.strip()])),
     Case('a full device: nothing to write', tokens('resources=DISK_GB:3000'), to='/dev/full'),
     to_nobody('tokens', tokens('resources=VCPU:2')),
@@ -451,10 +466,19 @@ GROWTHS = [
     growing('audit, nothing is amiss', ['audit', '--tables', CLOUD]),
     growing('capacity, a refused query', ['capacity', '--detail'], ONE, flavors='flavor,query\none,resources=VCPU\n'),
     growing('hosts, a required trait', ['hosts', TWO + '&required=CUSTOM_A'], ONE),
+    growing('compare', ['compare', TWO], CHILD, answer=full(BOTH)),
+    growing('compare, with differences, in detail', ['compare', '--detail', DISK], SHARED, answer=full(MIXED)),
+    growing('compare, more than is gathered', ['compare', TWO], CHILD, answer=MANY_REQUESTS),
+    growing('compare, a malformed answer', ['compare', '--detail', TWO], ONE, answer=full(BOTH).replace('"mappings"', '"mapping"')),
+    growing('compare, an answer that is no JSON', ['compare', TWO], ONE, answer=full(BOTH)[:-1]),
+    growing('compare, a refused query', ['compare', '--detail', 'resources=VCPU'], ONE, answer=full(BOTH)),
+    growing('compare, no file', ['compare', '--detail', TWO, NO_FILE], ONE),
     growing('why', ['why', DISK, 'P1'], SHARED),
     growing('why, with traits and aggregates', ['why', LACKING, 'P1'], ONE),
     growing('why, an unknown host', ['why', TWO, 'P7'], ONE),
     growing('a session', ['session'], SHARED, f'tokens {DISK}\nclaim {DISK} P9,P1\nfill {DISK}&limit=2\nusages\nverify {DISK} P9,P7\nrelease {DISK} P9,P1\nother\n'),
+    growing('a session with names', ['session'], CHILD, f'claim {TWO} P1 one\nclaim {TWO} P2 {"x" * 9000}\nmove one P2\nclaim {FIVES} P1,P2 one\n'
+            f'move one P7\nrelease one\nrelease {"x" * 9000}\nrelease one\n'),
     growing('a session without questions', ['session', '--tables', CLOUD]),
     growing('check of a usage without an inventory', ['check'], ONE, usages=HEADERS['usages'] + f'{provider(1)},MEMORY_MB,1\n'),
     growing('a refused query', ['tokens', 'resources1=VCPU:1&same_subtree=1,2'], ONE),
@@ -498,7 +522,7 @@ def status_of(text):
     if text.startswith(METRIC):
         least, wanted = ([number for _, number in read(text)[f'ac_flavor_{name}'][1]] for name in ('at_least', 'wanted'))
         return int(any(one < other for one, other in zip(least, wanted)))
-    if re.search('^candidates: none$|^verdict,(?!.*,fits$)', text, re.M):
+    if re.search('^candidates: none$|^verdict,(?!.*,fits$)|^only (here|the service): ', text, re.M):
         return 1
     if text.startswith(CAPACITY_HEAD):
         return int(any(int(row['at_least']) < int(row['wanted']) for row in csv.DictReader(text.splitlines())))
@@ -566,16 +590,23 @@ def concerned():
                    lambda one=one: named(*one), tables=cloud)
 
 
+# The files that a word names, and no option.
+BESIDE = 'flavors', 'answer'
+
+
 def files(case, folder):
-    """Writes the tables of a case, and returns the options that name them."""
-    options = []
+    """Writes the tables of a case, and returns the options that name them, with the path of a file that is read beside them."""
+    options, beside = [], []
     for name, made in case.tables.items():
         made = made() if callable(made) else made
         path = os.path.join(folder, name + '.csv')
         with open(path, 'wb') as file:
             file.write(made.encode() if isinstance(made, str) else made)
-        options += [path] if name == 'flavors' else [f'--{name}', path]
-    return ['--tables', folder] if case.together else options
+        if name in BESIDE:
+            beside.append(path)
+        else:
+            options += [f'--{name}', path]
+    return [*(['--tables', folder] if case.together else options), *beside]
 
 
 # A search over the most providers that are allowed takes memory for each of them, and not for each pair of them.
@@ -653,7 +684,7 @@ def main(*given):
     chance = [*drawn(150), *drawn_audits(300), *drawn_tables(200), *drawn_queries(200)]
     linked = STATIC if os.path.isfile(os.path.join(ROOT, 'out', 'ac_cli.o')) and 'AC_CLI' not in os.environ else []
     cases = [PAGES, CRATES, DRAWING, *linked, *HELP, *WORDS, *FILES, *FOLDERS, *DRIVER, *REPORT, *DETAILS, *second_lines(), *PASTED, *DEVICES, *GROWTHS, *AS_METRICS, KNOWN, *REFUSALS, *SMALL, *pages, remade('examples/private/README.md'),
-             *rules, *examples(), *concerned(), *exports(), *database_exports(), *flavor_queries(), *sessions(PROGRAM), *chance, *LARGE, *hostile(PROGRAM), *cliffs(PROGRAM), *tries(PROGRAM), FEW_BYTES, *cuts()]
+             *rules, *examples(), *concerned(), *exports(), *database_exports(), *flavor_queries(), *sessions(PROGRAM), *compares(PROGRAM), *chance, *LARGE, *hostile(PROGRAM), *cliffs(PROGRAM), *tries(PROGRAM), FEW_BYTES, *cuts()]
     cases = [case for case in cases if all(word in case.name for word in words)]
     failed = 0
     with ThreadPoolExecutor(max_workers=2) as pool:

@@ -2,7 +2,7 @@
 """tests/sessions.py waits PROGRAM [NUMBER]: a driver that writes one question, and waits for the end of its answer before it writes the next: this
 number of them (10000, if not said). It must not hang.
 
-tests/sessions.py trace PROGRAM [NUMBER]: a trace of this number of questions (300), with claims and releases, over examples/private. Each answer must be
+tests/sessions.py trace PROGRAM [NUMBER]: a trace of this number of questions (300), with claims, releases and moves, over examples/private. Each answer must be
 what a process of its own answers over the tables as the session has written them before (`usages`).
 
 tests/sessions.py spread PROGRAM: the command that docs/SESSION.md has for GNU parallel must answer as one session does.
@@ -26,13 +26,15 @@ import tempfile
 sys.path.append(os.path.join(os.path.dirname(os.path.abspath(__file__)), 'documents'))
 from cases import CHILD, ONE, SHARED, SOME, Case, full, lines, tables
 from log_lines import FOUND
-from model import (LEFT_HEADER, LIST_HEADER, RULES, at_root, body, bound, claim, draw_cloud, draw_query, explanation, filled, has_candidate, host_rows, judgement,
-                   left_rows, list_rows, names, place_all, release, sum_text, usage_rows, why_rows)
+from model import (LEFT_HEADER, LIST_HEADER, RULES, at_root, body, bound, change, claim, claim_as, draw_cloud, draw_query, explanation, filled, has_candidate,
+                   host_rows, judgement, left_rows, list_rows, move, names, place_all, release, release_name, sum_text, usage_rows, why_rows)
 from notation import HEADERS
 
 ROOT = os.path.dirname(os.path.dirname(os.path.abspath(__file__)))
 PRIVATE = os.path.join(ROOT, 'examples', 'private')
 TWO = 'resources=VCPU:2'
+# The last candidate for it in examples/cloud.
+LAST = 'b48d0f61-9e2c-4c7a-83d5-e6047b15ac05'
 # The most bytes of a line.
 MOST = 131072
 COUNTS = 'providers 1\ninventories 1\nusages 0\ntraits 0\naggregates 0\n'
@@ -52,8 +54,8 @@ def session(name, given, out, *words, made=None, **more):
     return Case(f'session: {name}', ['session', *words], full(out), given=given, tables=tables(ONE) if made is None else made, **more)
 
 
-# Lines, one behind another, and what each of them answers.
-FAULTS = [
+# Lines that are refused, or have no answer, over whatever cloud, as long as nothing has the name `another`.
+REFUSED = [
     ('nonsense', ended('', 2, UNKNOWN)),
     ('Check', ended('', 2, UNKNOWN)),
     (' check', ended('', 2, UNKNOWN)),
@@ -66,10 +68,13 @@ FAULTS = [
     ('audit x', ended('', 2, NUMBER)),
     ('check ', ended('', 2, NUMBER)),
     ('check x', ended('', 2, NUMBER)),
-    *((command, ended('', 2, NUMBER)) for command in ('candidates', 'tokens', 'list', 'fill', 'count', 'verify', 'explain', 'hosts', 'why', 'claim', 'release')),
-    *((f'{command} {TWO}', ended('', 2, NUMBER)) for command in ('verify', 'why', 'claim', 'release')),
+    *((command, ended('', 2, NUMBER)) for command in ('candidates', 'tokens', 'list', 'fill', 'count', 'verify', 'explain', 'hosts', 'why', 'claim', 'release',
+                                                      'move')),
+    *((f'{command} {TWO}', ended('', 2, NUMBER)) for command in ('verify', 'why', 'claim', 'move')),
     *((f'{command} {TWO} P1', ended('', 2, NUMBER)) for command in ('fill', 'count', 'explain', 'hosts')),
-    *((f'{command} {TWO} P1 P1', ended('', 2, NUMBER)) for command in ('candidates', 'tokens', 'list', 'verify', 'why', 'claim', 'release')),
+    *((f'{command} {TWO} P1 P1', ended('', 2, NUMBER)) for command in ('candidates', 'tokens', 'list', 'verify', 'why', 'release', 'move')),
+    *((f'claim {TWO} P1{more}', ended('', 2, NUMBER)) for more in (' one two', ' ', '  ', '  one', ' one ')),
+    *((line, ended('', 2, NUMBER)) for line in ('release ', 'release one two three', 'move ', 'move  P1', 'move one P1 ')),
     ('usages all', ended('', 2, NUMBER)),
     ('left P1 P1', ended('', 2, NUMBER)),
     ('help tokens', ended('', 2, NUMBER)),
@@ -84,7 +89,19 @@ FAULTS = [
     *((f'{command} resources=VCPU P1', ended('', 4, 'query: pair 1: BadValue')) for command in ('tokens', 'verify', 'claim', 'release', 'why')),
     *((f'{command} {TWO} P1,', ended('', 5, 'token: BadToken')) for command in ('candidates', 'tokens', 'list', 'verify', 'claim', 'release')),
     *((f'{command} {TWO} P1,P7', ended('', 5, 'token: WrongLength')) for command in ('candidates', 'tokens', 'list', 'verify', 'claim', 'release')),
+    (f'claim {TWO} P1, another', ended('', 5, 'token: BadToken')),
+    (f'claim {TWO}  another', ended('', 5, 'token: BadToken')),
+    ('claim  P1 another', ended('', 4, 'query: NoResources')),
+    ('release one ', ended('', 4, 'query: pair 1: UnknownParameter')),
+    ('release  one', ended('', 4, 'query: NoResources')),
+]
+
+# Lines, one behind another, and what each of them answers.
+FAULTS = [
+    *REFUSED,
     *((f'{command} {TWO} P7', ended('unknown provider\n', 1)) for command in ('verify', 'claim', 'release')),
+    (f'claim {TWO} P7 one', ended('unknown provider\n', 1)),
+    *((line, ended('not in use\n', 1)) for line in ('release one', f'release {TWO}', 'move one P1', 'move one P7', 'move one P1,', 'move one ')),
     (f'why {TWO} P7', ended('', 5, 'host: Unknown')),
     ('tokens resources=VCPU:2&required=in:CUSTOM_A', ended('', 4, 'query: pair 2: BadValue')),
     ('claim resources=VCPU:9 P1', ended('no: rule 1 Units\n', 1)),
@@ -112,6 +129,18 @@ PASTED = [
     (f'claim http://controller:8778{URL} P1', ended('claimed\n', 0)),
     (f'release "GET {URL} P1', ended('', 2, NUMBER)),
     (f'release {URL} P1', ended('released\n', 0)),
+    # What is claimed by name keeps its query, and a name is as it is written.
+    (f'claim http://controller:8778{URL} P1 /a?b', ended('claimed\n', 0)),
+    *((f'claim GET {URL}{more}', ended('', 2, NUMBER)) for more in (' P1', ' P1 one', ' HTTP/1.1')),
+    *((line, ended('', 2, NUMBER)) for line in (f'release GET {URL}', f'move GET {URL} P1')),
+    *((line, ended('not in use\n', 1)) for line in ('release b', 'release ?b', f'release {URL}', f'move GET {URL}', 'move b P1')),
+    ('move /a?b GET', ended('', 5, 'token: BadToken')),
+    ('move /a?b P1', ended('moved\n', 0)),
+    ('release /a?b', ended('released\n', 0)),
+    (f'claim {TWO} P1 /a?b', ended('claimed\n', 0)),
+    (f'claim ?{TWO} P1 GET', ended('claimed\n', 0)),
+    ('release /a?b', ended('released\n', 0)),
+    ('release GET', ended('released\n', 0)),
     *((f'{command} GET {URL}&limit=1 HTTP/1.1', ended('P1\n', 0)) for command in ('tokens', 'fill')),
     (f'count 127.0.0.1 "GET {URL}" status: 200', ended('at least 7, at most 7: short of VCPU at 1 host\n', 0)),
     (f'verify GET {URL} P1', ended('', 2, NUMBER)),
@@ -164,8 +193,9 @@ why QUERY HOST                      what the providers of a host lack
 verify QUERY TOKEN                  whether a token is a candidate
 count QUERY                         how many more of the same fit
 fill QUERY                          places the same again and again, and claims each placement
-claim QUERY TOKEN                   claims a candidate
-release QUERY TOKEN                 gives back what a claim took
+claim QUERY TOKEN [NAME]            claims a candidate, for which a name may stand
+release QUERY TOKEN, release NAME   gives back what a claim took
+move NAME TOKEN                     gives back what a name stands for, and claims the same by another token
 left [HOST]                         what is left of each inventory, or of those of a host's tree
 usages                              what is used, as a table
 audit                               what is amiss in the cloud
@@ -319,11 +349,149 @@ IN_TWO = [
     ('claim resources=DISK_GB:1 P2', 'no: rule 1 Units', {'P1': 4, 'P2': 3}),
 ]
 
+# Claims by name, of which each stands for one at a time, and of a refused one for none.
+BY_NAME = [
+    (f'claim {FIVE} P1 one', 'claimed', {'P1': 5}), (f'claim {FIVE} P2 one', 'in use', {'P1': 5}), ('claim x y one', 'in use', {'P1': 5}),
+    (f'claim {FIVE} P1 two', 'no: rule 6 Sums', {'P1': 5}), (f'claim {FIVE} P7 two', 'unknown provider', {'P1': 5}),
+    (f'claim {FIVE} P2,P2 two', 'token: WrongLength', {'P1': 5}), ('claim resources=VCPU P2 two', 'query: pair 1: BadValue', {'P1': 5}),
+    ('release two', 'not in use', {'P1': 5}), ('move two P2', 'not in use', {'P1': 5}), (f'claim {FIVE} P2 two', 'claimed', {'P1': 5, 'P2': 5}),
+    *((f'release {other}', 'not in use', {'P1': 5, 'P2': 5}) for other in ('One', 'on', 'ones', 'P1', FIVE)),
+    ('release one', 'released', {'P2': 5}), ('release one', 'not in use', {'P2': 5}), (f'claim {TWO} P2 one', 'claimed', {'P2': 7}),
+    ('release two', 'released', {'P2': 2}), ('release two', 'not in use', {'P2': 2}), ('release one', 'released', {}),
+]
+
+# Moves of one name, beside another. The second fits only because what it holds is given back first.
+DISKS = CHILD + '\nP3 | | DISK_GB total 8'
+MOVES = [
+    (f'claim {FIVE} P1 one', 'claimed', {'P1': 5}), ('move two P2', 'not in use', {'P1': 5}), ('move two P2,', 'not in use', {'P1': 5}),
+    ('move one P2,', 'token: BadToken', {'P1': 5}), ('move one P2,P2', 'token: WrongLength', {'P1': 5}), ('move one P7', 'unknown provider', {'P1': 5}),
+    ('move one P3', 'no: rule 1 Units', {'P1': 5}), ('move one P2', 'moved', {'P2': 5}), ('move one P2', 'moved', {'P2': 5}),
+    (f'claim {FIVE} P1 two', 'claimed', {'P1': 5, 'P2': 5}), ('move one P1', 'no: rule 6 Sums', {'P1': 5, 'P2': 5}),
+    (f'claim {TWO} P1 one', 'in use', {'P1': 5, 'P2': 5}), ('release one', 'released', {'P1': 5}), ('move one P1', 'not in use', {'P1': 5}),
+    ('move two P2', 'moved', {'P2': 5}), (f'claim {TWO} P2 one', 'claimed', {'P2': 7}), ('move one P1', 'moved', {'P1': 2, 'P2': 5}),
+    ('move two P1', 'moved', {'P1': 7}), ('release two', 'released', {'P1': 2}), ('release one', 'released', {}),
+]
+
+# Moves of two slots: where they have room once they are given back, a later rule is broken; and they change places where there is room for one unit more.
+PAIRS = [
+    (f'claim {APART} P1,P2 one', 'claimed', {'P1': 3, 'P2': 4}), (f'verify {APART} P1,P1', 'no: rule 6 Sums', {'P1': 3, 'P2': 4}),
+    ('move one P1,P1', 'no: rule 7 Isolate', {'P1': 3, 'P2': 4}), ('move one P2,P1', 'moved', {'P1': 4, 'P2': 3}), ('release one', 'released', {}),
+    (f'claim {UNEQUAL} P1,P2 one', 'claimed', {'P1': 3, 'P2': 4}), ('claim resources=VCPU:4 P1', 'claimed', {'P1': 7, 'P2': 4}),
+    ('claim resources=VCPU:3 P2', 'claimed', {'P1': 7, 'P2': 7}), ('move one P1,P1', 'no: rule 6 Sums', {'P1': 7, 'P2': 7}),
+    ('move one P2,P1', 'moved', {'P1': 8, 'P2': 6}), ('move one P2,P2', 'no: rule 6 Sums', {'P1': 8, 'P2': 6}), ('move one P1,P2', 'moved', {'P1': 7, 'P2': 7}),
+    ('move one P1,P7', 'unknown provider', {'P1': 7, 'P2': 7}), ('move one P1', 'token: WrongLength', {'P1': 7, 'P2': 7}),
+    ('release one', 'released', {'P1': 4, 'P2': 3}),
+]
+
+# What a name stands for is given back without it, all or a part; and what others claimed meanwhile.
+GIVEN_BACK = [
+    (f'claim {FIVE} P1 one', 'claimed', {'P1': 5}), (f'release {FIVE} P1', 'released', {}), ('release one', 'not in use', {}),
+    ('move one P2', 'not in use', {}), ('move one P7', 'unknown provider', {}), ('move one P2,', 'token: BadToken', {}), (f'claim {FIVE} P2 one', 'in use', {}),
+    (f'claim {TWO} P1 two', 'claimed', {'P1': 2}), ('release one', 'not in use', {'P1': 2}), ('move one P2', 'not in use', {'P1': 2}),
+    ('claim resources=VCPU:3 P1', 'claimed', {'P1': 5}), ('move one P2', 'moved', {'P2': 5}), ('release two', 'not in use', {'P2': 5}),
+    ('move two P2', 'not in use', {'P2': 5}), ('release one', 'released', {}), (f'claim {TWO} P1', 'claimed', {'P1': 2}), ('release two', 'released', {}),
+    (f'claim {UNEQUAL} P1,P2 one', 'claimed', {'P1': 3, 'P2': 4}), ('release resources=VCPU:1 P2', 'released', {'P1': 3, 'P2': 3}),
+    *((line, 'not in use', {'P1': 3, 'P2': 3}) for line in ('release one', 'move one P2,P1', 'move one P1,P2')),
+    ('claim resources=VCPU:1 P2', 'claimed', {'P1': 3, 'P2': 4}), ('release one', 'released', {}), (f'claim {UNEQUAL} P1,P1 one', 'claimed', {'P1': 7}),
+    ('release resources=VCPU:1 P1', 'released', {'P1': 6}), ('release one', 'not in use', {'P1': 6}), ('move one P2,P2', 'not in use', {'P1': 6}),
+]
+
+# The same claim by two names and by none: each is given back once, and which of them doesn't matter.
+SIDE_BY_SIDE = [
+    (f'claim {TWO} P1 one', 'claimed', {'P1': 2}), (f'claim {TWO} P1', 'claimed', {'P1': 4}), (f'claim {TWO} P1 two', 'claimed', {'P1': 6}),
+    (f'release {TWO} P1', 'released', {'P1': 4}), ('move two P2', 'moved', {'P1': 2, 'P2': 2}), (f'release {TWO} P2', 'released', {'P1': 2}),
+    (f'release {TWO} P2', 'not in use', {'P1': 2}), ('release two', 'not in use', {'P1': 2}), ('release one', 'released', {}),
+    (f'release {TWO} P1', 'not in use', {}),
+]
+
+# A provider with more in use than its capacity: nothing moves there before enough is given back.
+OVERFULL = CHILD + ', used 12'
+FROM_OVERFULL = [
+    (f'claim {FIVE} P1 one', 'claimed', {'P1': 5, 'P2': 12}), ('move one P2', 'no: rule 6 Sums', {'P1': 5, 'P2': 12}),
+    ('move one P1', 'moved', {'P1': 5, 'P2': 12}), (f'claim {FIVE} P2 two', 'no: rule 6 Sums', {'P1': 5, 'P2': 12}),
+    ('release two', 'not in use', {'P1': 5, 'P2': 12}), ('release resources=VCPU:8 P2', 'released', {'P1': 5, 'P2': 4}),
+    ('move one P2', 'no: rule 6 Sums', {'P1': 5, 'P2': 4}), ('release resources=VCPU:1 P2', 'released', {'P1': 5, 'P2': 3}),
+    ('move one P2', 'moved', {'P2': 8}), ('release resources=VCPU:3 P2', 'released', {'P2': 5}), ('release one', 'released', {}),
+]
+
+# A move from host to host, where the disk stays on the storage that both share, which has no room for it twice.
+SIXTY = 'resources=DISK_GB:60,VCPU:1'
+STAYING = [
+    (f'claim {SIXTY} P9,P1 one', ended('claimed\n', 0)),
+    (f'claim {SIXTY} P9,P3 two', ended('no: rule 6 Sums\n', 1)),
+    ('move one P9,P3', ended('moved\n', 0)),
+    *((f'move one {token}', ended('no: rule 1 Units\n', 1)) for token in ('P9,P4', 'P3,P9', 'P9,P9')),
+    ('usages', ended(HEADERS['usages'] + 'P3,VCPU,1\nP9,DISK_GB,60\n', 0)),
+    (f'fill {BOTH}&limit=1', ended('P9,P1\n', 0)),
+    (f'release {BOTH} P9,P1', ended('released\n', 0)),
+    ('release one', ended('released\n', 0)),
+    ('usages', ended(HEADERS['usages'], 0)),
+]
+
+# Moves where more is in use than a table can state.
+MUCH_BY_NAME = [
+    *((f'claim {ALL} P1 {name}', ended('claimed\n', 0)) for name in ('one', 'two', 'three', 'four')),
+    (f'claim {ALL} P1 five', ended('no: rule 6 Sums\n', 1)),
+    ('move one P1', ended('moved\n', 0)),
+    ('left', ended(LEFT_HEADER + 'P1,,VCPU,8589934588,8589934588,0\n', 0)),
+    ('release one', ended('released\n', 0)),
+    ('claim resources=VCPU:1 P1 one', ended('claimed\n', 0)),
+    ('move two P1', ended('moved\n', 0)),
+    ('left', ended(LEFT_HEADER + 'P1,,VCPU,8589934588,6442450942,2147483646\n', 0)),
+]
+
+# Names that look like something else, that differ little, or that are as long as a query may be. They are given back in another order than they were
+# claimed.
+ODD = ['=', '==', '=0', '#', '"', '""', "'", '\\', '$HOME', '*', '-', '--', '--help', '0', '00', '+', '%20', '%', '?', '??', '/', 'a=b&c', ',', 'P1', TWO,
+       'at', 'GET', 'claim', 'release', 'move', 'one', 'One', '\t', '\0', '\0\0', 'a\0b', 'a\rb', '\x1b[2J', '\x7f', '\xa0', '\ufeff', '\xe9', 'e\u0301',
+       '\U0001f600', '\uffff', 'x' * 65535, 'x' * 65536, 'x' * 65535 + 'y', 'y' + 'x' * 65535]
+HUNDREDS = 'P1 | | VCPU total 100\nP2 | P1 | VCPU total 100'
+ODD_NAMES = [
+    *((f'claim {TWO} P1 {name}', ended('claimed\n', 0)) for name in ODD),
+    *((f'claim {TWO} P2 {name}', ended('in use\n', 1)) for name in ODD),
+    *((f'move {name} P2', ended('moved\n', 0)) for name in ODD[::2]),
+    ('usages', ended(HEADERS['usages'] + f'P1,VCPU,{2 * len(ODD[1::2])}\nP2,VCPU,{2 * len(ODD[::2])}\n', 0)),
+    *((line, said) for name in ODD[::-1] for line, said in ((f'release {name}', ended('released\n', 0)), (f'release {name}', ended('not in use\n', 1)))),
+    ('usages', ended(HEADERS['usages'], 0)),
+]
+
+# A name in a line of the most bytes, and of more; and one that ends with a carriage return, which stands before that of its line.
+LONGEST = 'x' * (MOST - len(full(f'claim {TWO} P1 ')))
+WHOLE_LINE = [
+    (f'claim {TWO} P1 {LONGEST}', ended('claimed\n', 0)), (f'claim {TWO} P1 {LONGEST}', ended('in use\n', 1)),
+    (f'claim {TWO} P1 {LONGEST}x', ended('', 2, LONG)), (f'move {LONGEST} P1', ended('moved\n', 0)), (f'release {LONGEST}', ended('released\n', 0)),
+    (f'release {LONGEST}', ended('not in use\n', 1)),
+]
+RETURNS = [
+    (f'claim {TWO} P1 one\r', ended('claimed\n', 0)), (f'claim {TWO} P1 one', ended('in use\n', 1)), ('release one\r\r', ended('not in use\n', 1)),
+    (f'claim {TWO} P1 one\r\r', ended('claimed\n', 0)), ('release one', ended('released\n', 0)), ('move one P1', ended('not in use\n', 1)),
+    ('move one\r P1\r', ended('moved\n', 0)), ('release one\r\r', ended('released\n', 0)),
+]
+
+# Many names at once, given back in another order than they were claimed.
+MANY = 4000
+SHUFFLED = random.Random(3).sample(range(MANY), MANY)
+MANY_NAMES = [
+    *((f'claim resources=VCPU:1 P1 {n}', ended('claimed\n', 0)) for n in range(MANY)),
+    *((f'move {n} P2', ended('moved\n', 0)) for n in SHUFFLED if n % 4 == 0),
+    ('usages', ended(HEADERS['usages'] + f'P1,VCPU,{MANY * 3 // 4}\nP2,VCPU,{MANY // 4}\n', 0)),
+    *((f'release {n}', ended('released\n', 0)) for n in SHUFFLED if n % 2 == 0),
+    ('usages', ended(HEADERS['usages'] + f'P1,VCPU,{MANY // 2}\n', 0)),
+    *((f'release {n}', ended('not in use\n', 1) if n % 2 == 0 else ended('released\n', 0)) for n in range(MANY)),
+    ('usages', ended(HEADERS['usages'], 0)),
+]
+
+
+def said_of(text):
+    """The answer of a claim, a release or a move, by its text."""
+    status = {'claimed': 0, 'released': 0, 'moved': 0, 'query:': 4, 'token:': 5}.get(text.split()[0], 1)
+    return ended('', status, text) if status > 1 else ended(text + '\n', status)
+
 
 def stepped(steps):
     """The lines of these steps, each with `usages` behind it."""
     for line, said, used in steps:
-        yield line, ended(said + '\n', 0 if said in ('claimed', 'released') else 1)
+        yield line, said_of(said)
         yield 'usages', ended(HEADERS['usages'] + ''.join(f'{name},VCPU,{amount}\n' for name, amount in used.items()), 0)
 
 
@@ -351,6 +519,22 @@ ENDS = [
     behind('claims and releases on one provider', list(stepped(IN_ONE))),
     behind('claims and releases on two providers', list(stepped(IN_TWO)), made=tables(CHILD)),
     behind('more in use than a table can state', TOO_MUCH, made=GREAT),
+    behind('claims by name', list(stepped(BY_NAME)), made=tables(CHILD)),
+    behind('claims by name, with carriage returns', list(stepped(BY_NAME)), '\r\n', made=tables(CHILD)),
+    behind('moves', list(stepped(MOVES)), made=tables(DISKS)),
+    behind('moves of two slots', list(stepped(PAIRS)), made=tables(CHILD)),
+    behind('what a name stands for is given back without it', list(stepped(GIVEN_BACK)), made=tables(CHILD)),
+    behind('claims with a name and without', list(stepped(SIDE_BY_SIDE)), made=tables(CHILD)),
+    behind('a move beside a shared disk', STAYING, made=tables(SHARED)),
+    behind('moves, and more in use than there is', list(stepped(FROM_OVERFULL)), made=tables(OVERFULL)),
+    behind('moves, and more in use than a table can state', MUCH_BY_NAME, made=GREAT),
+    behind('odd names', ODD_NAMES, made=tables(HUNDREDS)),
+    behind('many names', MANY_NAMES, made=tables(HUNDREDS.replace('100', '4000'))),
+    behind('a name in a line of the most bytes', WHOLE_LINE),
+    behind('names with carriage returns', RETURNS),
+    session('names that are no UTF-8', full(f'claim {TWO} P1 ').encode() + b'\xff\nrelease \xff\nmove \xff P1\nusages\n',
+            3 * ended('', 2, UNKNOWN) + ended(HEADERS['usages'], 0)),
+    session('cut off in a name', f'claim {TWO} P1 one\nmove one P1\nrelease on', ended('claimed\n', 0) + ended('moved\n', 0) + ended('not in use\n', 1)),
     session('no question at all', b'', ''),
     session('empty lines ask nothing', b'\n\r\n\ncheck\n\n', ended(COUNTS, 0)),
     session('no newline at the end', b'check\ncheck', 2 * ended(COUNTS, 0)),
@@ -436,12 +620,40 @@ def draw_assignment(chance, query, cloud):
     return chance.choice(found if found and chance.random() < 0.85 else every)
 
 
+def draw_target(chance, former, query, cloud):
+    """A list of providers to move to: mostly a candidate once the former one is given back, else one that breaks some rule then; not the former one, if it
+    need not be."""
+    change(former, query, cloud, -1)
+    judged = [(one, judgement(one, query, cloud)) for one in itertools.product(cloud, repeat=len(former))]
+    change(former, query, cloud, 1)
+    rules = sorted({rule for _, rule in judged})
+    wanted = 0 if 0 in rules and chance.random() < 0.6 else chance.choice(rules)
+    found = [one for one, rule in judged if rule == wanted]
+    return chance.choice([one for one in found if names(one) != names(former)] or found)
+
+
+def draw_move(chance, cloud, named):
+    """A move of a name, which mostly stands for a claim, and what it answers."""
+    name = chance.choice([*named] if named and chance.random() < 0.9 else NAMES)
+    if name not in named:
+        return f'move {name} {chance.choice(("P1", "P7", "x"))}', ended('not in use\n', 1)
+    target = draw_target(chance, *named[name], cloud)
+    line, fault = f'move {name} {names(target)}', chance.random()
+    if fault < 0.04:
+        return line + ',P1', ended('', 5, 'token: WrongLength')
+    if fault < 0.08:
+        return line[:-1] + '7', ended('unknown provider\n', 1)
+    return line, ended(*move(name, target, named, cloud))
+
+
 JOBS = 'tokens', 'tokens after', 'tokens at', 'list at', 'candidates', 'list', 'count', 'verify', 'explain', 'hosts', 'why'
-KINDS = 'job', 'job', 'claim', 'claim', 'claim', 'release', 'release', 'fill', 'usages', 'left', 'fault'
+KINDS = ('job', 'job', 'claim', 'claim', 'claim as', 'claim as', 'claim as', 'release', 'release', 'release name', 'move', 'move', 'move', 'fill', 'usages',
+         'left', 'fault')
+NAMES = 'one', 'two', '='
 
 
-def draw_turn(chance, cloud, queries, claimed):
-    """A line, and what it answers. Claims and releases change the cloud."""
+def draw_turn(chance, cloud, queries, claimed, named):
+    """A line, and what it answers. Claims, releases and moves change the cloud, and what has a name."""
     kind, asked = chance.choice(KINDS), chance.choice(queries)
     if kind == 'usages':
         return 'usages', ended(*usage_rows(cloud))
@@ -449,12 +661,17 @@ def draw_turn(chance, cloud, queries, claimed):
         host = chance.choice([None, *cloud])
         return f'left {host.name}' if host else 'left', ended(left_rows(cloud, host), 0)
     if kind == 'fault':
-        return chance.choice([*FAULTS[:50], ('', '')])
+        return chance.choice([*REFUSED, ('', '')])
     if kind == 'fill':  # few, so that there is room for what comes after
         limit = chance.randint(1, 2)
         placed = place_all(asked[0], cloud, limit)
         claimed.extend((asked, assignment) for assignment in placed)
         return f'fill {asked[1]}&limit={limit}', ended(lines(*map(names, placed)), 0 if len(placed) == limit else 1)
+    if kind == 'move':
+        return draw_move(chance, cloud, named)
+    name = chance.choice(NAMES)
+    if kind == 'release name':
+        return f'release {name}', ended(*release_name(name, named, cloud))
     if kind == 'release' and claimed and chance.random() < 0.7:
         asked, assignment = claimed.pop(chance.randrange(len(claimed)))
     else:
@@ -462,22 +679,24 @@ def draw_turn(chance, cloud, queries, claimed):
     if kind == 'job':
         command = chance.choice(JOBS)
         return line_of(command, asked[1], assignment), ended(*answer(command, asked, assignment, cloud))
+    if kind == 'claim as':
+        return f'claim {asked[1]} {names(assignment)} {name}', ended(*claim_as(name, assignment, asked[0], named, cloud))
     said = (claim if kind == 'claim' else release)(assignment, asked[0], cloud)
     if said[0] == 'claimed\n':
         claimed.append((asked, assignment))
     return f'{kind} {asked[1]} {names(assignment)}', ended(*said)
 
 
-def drawn_sessions(number, turns=14, seed=5):
+def drawn_sessions(number, turns=20, seed=5):
     """This number of sessions, each over a random cloud with a few queries."""
     chance = random.Random(seed)
     for n in range(number):
         cloud = draw_cloud(chance)
         made = tables('\n'.join(one.text() for one in cloud))
-        queries, claimed = [draw_asked(chance, cloud) for _ in range(3)], []
+        queries, claimed, named = [draw_asked(chance, cloud) for _ in range(3)], [], {}
         later = any(group.any_of for query, _ in queries for group in query.groups.values())
         words = ['--microversion', '1.39'] if later or chance.random() < 0.5 else []
-        drawn = [draw_turn(chance, cloud, queries, claimed) for _ in range(turns)]
+        drawn = [draw_turn(chance, cloud, queries, claimed, named) for _ in range(turns)]
         yield session(f'drawn {n}', ''.join(line + '\n' for line, _ in drawn), ''.join(said for _, said in drawn), *words, made=made)
 
 
@@ -547,24 +766,28 @@ def used_then(used, slots, token, sign):
 
 
 class Trace:
-    """A session beside processes of their own, each over tables with the usages that the session wrote last."""
+    """A session beside processes of their own, each over tables with the usages that the session wrote last, or that it is to have."""
 
     def __init__(self, program, folder, chance):
         for name in HEADERS:
             shutil.copy(os.path.join(PRIVATE, name + '.csv'), folder)
         self.program, self.folder, self.chance = program, folder, chance
         self.driver = Driver(program, folder)
-        self.claimed, self.tokens = [], {}
+        self.claimed, self.named, self.tokens = [], {}, {}
         self.counts = self.alone('check')
         with open(os.path.join(PRIVATE, 'usages.csv'), encoding='ascii') as file:
             self.used = rows_of(file.read())
         self.write()
 
+    def put(self, table):
+        """Writes a table of usages for the processes."""
+        with open(os.path.join(self.folder, 'usages.csv'), 'w', encoding='ascii') as file:
+            file.write(table)
+
     def write(self):
         """Writes the table of usages as the session has it, which must be what is expected."""
         table, end = self.driver.ask('usages')
-        with open(os.path.join(self.folder, 'usages.csv'), 'w', encoding='ascii') as file:
-            file.write(table)
+        self.put(table)
         if end != '= 0' or rows_of(table) != self.used:
             raise ValueError('the session has other usages')
 
@@ -582,32 +805,67 @@ class Trace:
             raise ValueError(f'{told!r}, and not {alone!r}')
         return told[0]
 
-    def claims(self, flavor, slots, token):
-        """Claims a token. A process of its own says `candidate` where the session says `claimed`, and else the same."""
-        alone = self.alone('verify', flavor, token)
-        told = self.driver.ask(f'claim {flavor} {token}')
-        if told != (alone[0].replace('candidate', 'claimed'), alone[1]):
-            raise ValueError(f'{told!r}, and not {alone!r}')
-        if told[1] == '= 0':
+    def told(self, line, wanted):
+        """Whether a line that must be answered so is done."""
+        told = self.driver.ask(line)
+        if told != wanted:
+            raise ValueError(f'{line}: {told!r}, and not {wanted!r}')
+        return told[1] == '= 0'
+
+    def verified(self, flavor, token, word):
+        """What a process of its own says, with this word where it says `candidate`."""
+        said, end = self.alone('verify', flavor, token)
+        return said.replace('candidate', word), end
+
+    def claims(self, flavor, slots, token, name=None):
+        """Claims a token, perhaps with a name."""
+        wanted = ('in use\n', '= 1') if name in self.named else self.verified(flavor, token, 'claimed')
+        if self.told(' '.join(['claim', flavor, token, *([name] if name else [])]), wanted):
             self.used = used_then(self.used, slots, token, 1)
-            self.claimed.append((flavor, slots, token))
+            if name:
+                self.named[name] = flavor, slots, token
+            else:
+                self.claimed.append((flavor, slots, token))
             self.write()
 
-    def releases(self, flavor, slots, token):
-        """Releases a token."""
+    def releases(self, flavor, slots, token, name=None):
+        """Releases a token, or what a name stands for."""
         then = used_then(self.used, slots, token, -1)
         wanted = ('not in use\n', '= 1') if any(amount < 0 for amount in then.values()) else ('released\n', '= 0')
-        told = self.driver.ask(f'release {flavor} {token}')
-        if told != wanted:
-            raise ValueError(f'{told!r}, and not {wanted!r}')
-        if told[1] == '= 0':
+        if self.told(f'release {name}' if name else f'release {flavor} {token}', wanted):
             self.used = then
+            self.named.pop(name, None)
             self.write()
+
+    def moves(self, name, token):
+        """Moves a name to a token, which a process of its own verifies where what the name stands for isn't in use."""
+        flavor, slots, former = self.named[name]
+        then = used_then(self.used, slots, former, -1)
+        fits = all(amount > 0 for amount in then.values())
+        if fits:
+            self.put(HEADERS['usages'] + ''.join(f'{id},{kind},{amount}\n' for (id, kind), amount in then.items()))
+        if self.told(f'move {name} {token}', self.verified(flavor, token, 'moved') if fits else ('not in use\n', '= 1')):
+            self.used = used_then(then, slots, token, 1)
+            self.named[name] = flavor, slots, token
+        self.write()
+
+    def by_name(self, kind, flavor, slots, token):
+        """A question with one of a few names. What isn't there is released or moved in vain."""
+        name = self.chance.choice(('one', 'two', 'three', 'four', 'five', 'six'))
+        if kind == 'claim as':
+            self.claims(flavor, slots, token, name)
+        elif name not in self.named:
+            self.told(f'release {name}' if kind == 'release name' else f'move {name} {token}', ('not in use\n', '= 1'))
+        elif kind == 'release name':
+            self.releases(*self.named[name], name)
+        else:
+            self.moves(name, self.tokens[self.named[name][0]])
 
     def turn(self):
         """One question of the trace."""
         flavor, slots = self.chance.choice(FLAVORS)
-        kind = self.chance.choice(('tokens', 'tokens', 'claim', 'claim', 'claim', 'release', 'release', 'hosts', 'explain', 'candidates', 'list', 'after', 'check'))
+        kind = self.chance.choice(('tokens', 'tokens', 'claim', 'claim', 'claim', 'release', 'release', 'claim as', 'claim as', 'release name', 'move', 'move',
+                                   'hosts', 'explain', 'candidates', 'list', 'after', 'check'))
         token = self.tokens.get(flavor)
         if kind == 'check':  # it counts the rows that were read
             if self.driver.ask('check') != self.counts:
@@ -622,6 +880,8 @@ class Trace:
                 self.tokens[flavor] = self.chance.choice(found)
         elif kind == 'after':
             self.asks('tokens', flavor + '&limit=2', token)
+        elif kind in ('claim as', 'release name', 'move'):
+            self.by_name(kind, flavor, slots, token)
         elif kind == 'claim':
             self.claims(flavor, slots, token)
         elif self.claimed and self.chance.random() < 0.8:
@@ -661,9 +921,15 @@ def sessions(program):
     """The cases, some of which run this program by themselves."""
     this = ['sh', '-c', 'exec python3 -B tests/sessions.py "$@"', 'sessions']
     yield from ENDS
-    yield from drawn_sessions(60)
+    yield from drawn_sessions(80)
     yield Case('session: 100000 questions within 64 MiB', ['sh', '-c', 'ulimit -v 65536; yes check | head -n 100000 | "$0" session --tables examples/private | grep -c "^= 0$"', program],
                '100000\n')
+    yield Case('session: 8000 claims by a long name, each given back, within 64 MiB',
+               ['sh', '-c', 'ulimit -v 65536; yes "$1" | head -n 16000 | "$0" session --tables examples/cloud | grep -c "^= 0$"', program,
+                f'claim {TWO} {LAST} {LONGEST[:10000]}\nrelease {LONGEST[:10000]}'], '16000\n')
+    yield Case('session: more names than there is memory for',
+               ['sh', '-c', 'line=$1; shift; ulimit -v 65536; seq -f "$line%g" 2000 | { "$0" session "$@" >/dev/null; echo $?; }', program,
+                full('claim resources=VCPU:1 P1 ') + LONGEST[:60000]], '7\n', 'out of memory\n', tables=tables('P1 | | VCPU total 2000'))
     yield Case('session: 10000 questions, each after the answer to the one before', [*this, 'waits', program])
     yield Case('session: each answer is that of a process of its own', [*this, 'trace', program])
     if shutil.which('parallel'):

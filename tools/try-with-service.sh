@@ -4,6 +4,8 @@
 # what it would do. Databases and service live in a folder under /tmp, use sockets in it and a port of 127.0.0.1, and are gone at the end.
 # tools/try_with_service.py has what is tried. The program is out/ac_cli, or what AC_CLI names. docs/EXPORT.md has the results.
 #
+# --traces N: tries N traces of claims, moves and releases too, over each database. Each takes some seconds.
+#
 # For another version of Placement:
 # --suite NAME: that of this suite of Debian (as trixie), unpacked into the folder under /tmp, beside what is installed.
 # --from DIR: that in this folder, where the Python package `placement` is, as at the top of a checkout.
@@ -129,7 +131,7 @@ X
     port=$(python3 -c 'import socket; s = socket.socket(); s.bind(("127.0.0.1", 0)); print(s.getsockname()[1])')
     run "$room/service.log" env OS_PLACEMENT_CONFIG_DIR="$room/$database.conf" ${from:+"PYTHONPATH=$from"} placement-api --host 127.0.0.1 --port "$port"
     until_ok python3 -c "import urllib.request; urllib.request.urlopen('http://127.0.0.1:$port/')"
-    python3 tools/try_with_service.py "http://127.0.0.1:$port" "$program" "$database" "$@" || failed=yes
+    python3 tools/try_with_service.py "http://127.0.0.1:$port" "$program" "$database" "$traces" "$@" || failed=yes
 }
 
 wanted=
@@ -137,7 +139,8 @@ told=no
 from=
 suite=
 url=
-usage='usage: tools/try-with-service.sh --yes [--suite NAME | --from DIR | --url URL] [mariadb|postgresql|sqlite ..]'
+traces=0
+usage='usage: tools/try-with-service.sh --yes [--suite NAME | --from DIR | --url URL] [--traces N] [mariadb|postgresql|sqlite ..]'
 while test $# -gt 0; do
     case $1 in
     --yes) told=yes ;;
@@ -151,6 +154,13 @@ while test $# -gt 0; do
             ;;
         --url) url=${2%/} ;;
         esac
+        shift
+        ;;
+    --traces)
+        case ${2:-} in
+        '' | *[!0-9]*) stop "$usage" ;;
+        esac
+        traces=$2
         shift
         ;;
     mariadb | postgresql | sqlite) wanted="$wanted $1" ;;
@@ -170,7 +180,7 @@ if test -n "$url"; then
     case $wanted in
     ' '*' '*) stop 'a service has one database' ;;
     esac
-    exec python3 tools/try_with_service.py "$url" "$program" "${wanted# }"
+    exec python3 tools/try_with_service.py "$url" "$program" "${wanted# }" "$traces"
 fi
 
 if test $told = no; then

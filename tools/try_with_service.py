@@ -1,15 +1,17 @@
 #!/usr/bin/env python3
-"""tools/try_with_service.py URL PROGRAM NAME [CLIENT [ARG..]]: tries the exports and the program PROGRAM with the service at URL, whose database
+"""tools/try_with_service.py URL PROGRAM NAME TRACES [CLIENT [ARG..]]: tries the exports and the program PROGRAM with the service at URL, whose database
 CLIENT ARG.. opens. tools/try-with-service.sh starts that service and calls this script. NAME is the database's name in the output.
 
-Each cloud is put into the service by its API and exported in both ways. Then service and program are asked the same queries. Last come the clouds
+Each cloud is put into the service by its API and exported in both ways. Then service and program are asked the same queries. Next come the clouds
 and queries of docs/DIFFERENCES.md, for which the service must answer as that page says, and the files of examples/gabbi, whose tests of a mistake
-must fail. The status is 0 only if all went as it should.
+must fail. Last come TRACES traces: claims, moves and releases over a random cloud, which the service and a session of the program must answer alike,
+with the same in use after each. The status is 0 only if all went as it should.
 
 Without CLIENT the service is somebody else's: the exports aren't tried, and the program reads what the service's API tells of each cloud. NAME is
 empty if its database isn't known. The service must have no resource providers; those that it gets from others in the meantime stay in it."""
 from __future__ import annotations
 
+import collections
 import csv
 import json
 import os
@@ -28,8 +30,9 @@ import uuid
 
 ROOT = os.path.dirname(os.path.dirname(os.path.abspath(__file__)))
 sys.dont_write_bytecode = True
-sys.path.insert(0, os.path.join(ROOT, 'tests'))
+sys.path[:0] = os.path.join(ROOT, 'tests'), os.path.join(ROOT, 'clients', 'python')
 
+import ac_session  # noqa: E402
 import gabbi_files  # noqa: E402
 from notation import HEADERS, full, tables as tables_of  # noqa: E402
 
@@ -45,9 +48,26 @@ PAGE = os.path.join(ROOT, 'docs', 'DIFFERENCES.md')
 # What is asked of the client's list of candidates.
 LISTED = ['VCPU=2'], ['VCPU=2', 'MEMORY_MB=512'], ['VCPU=2', 'MEMORY_MB=512', 'DISK_GB=20'], ['SRIOV_NET_VF=1']
 
+# The steps of a trace, how many queries it has, and the amounts that they ask for.
+STEPS, QUERIES = 30, 3
+AMOUNTS = {'VCPU': (2, 4, 8, 16), 'MEMORY_MB': (512, 4096, 8192), 'DISK_GB': (10, 15, 200, 400), 'SRIOV_NET_VF': (1, 2, 4, 8)}
+
+# What a session must answer to this question where the service answers with this status and code, and what that is called in the line of counts.
+UNDEFINED, CONCURRENT = 'placement.undefined_code', 'placement.concurrent_update'
+SAME = {('claim', 204, ''): ('claimed', 'claims'), ('claim', 409, UNDEFINED): ('no: rule 6 Sums', 'refused claims'),
+        ('claim', 409, CONCURRENT): ('in use', 'claims by a name in use'),
+        ('move', 204, ''): ('moved', 'moves'), ('move', 409, UNDEFINED): ('no: rule 6 Sums', 'refused moves'),
+        ('move', 409, CONCURRENT): ('not in use', 'moves of a name not in use'),
+        ('release', 204, ''): ('released', 'releases'), ('release', 404, UNDEFINED): ('not in use', 'releases sent twice')}
+COUNTED = *(what for _, what in SAME.values()), 'comparisons of usages', 'comparisons of candidates', 'queries left out', 'bad'
+
 
 class Refused(Exception):
     """The service refused what a cloud needs."""
+
+
+class Differs(Exception):
+    """Service and session differ in a step of a trace."""
 
 
 class Service:
@@ -343,6 +363,115 @@ def mistakes():
     return re.findall('^### (.*)$', part[1], re.M)
 
 
+def wished(chance, cloud):
+    """One of the queries over a cloud, with amounts drawn anew."""
+    return re.sub('([A-Z_]+):[0-9]+', lambda found: f'{found[1]}:{chance.choice(AMOUNTS[found[1]])}', chance.choice(asked(cloud)[:-1]))
+
+
+class Trace:
+    """Random claims, moves and releases, sent to the service and to a session beside it. A consumer's UUID is the name of its claim. The first step in which
+    the two differ raises `Differs`. The counts are of all traces together."""
+
+    def __init__(self, service, session, cloud, chance, counts):
+        self.service, self.session, self.chance, self.counts = service, session, chance, counts
+        self.every = [row['uuid'] for row in cloud['providers']]
+        self.queries = [wished(chance, cloud) for _ in range(QUERIES)]
+        self.seen = {}  # of each query all its candidates so far, by their tokens
+        self.held = {}  # of each name in use its query and token
+        self.free = []  # names that were released, or refused
+        self.used = {}  # what was in use of each provider, when the service was last asked
+
+    def run(self):
+        self.look(self.every)
+        for _ in range(STEPS):
+            step = self.chance.choices((self.claim, self.move, self.release), (5, 4, 2))[0] if self.held else self.claim
+            step()
+        self.look(self.every)
+
+    def claim(self):
+        """Claims a candidate. Sometimes the name is in use, so both must refuse."""
+        query = self.chance.choice(self.queries)
+        token = self.pick(query)
+        if token:
+            name = self.name(0.05)
+            self.put(('claim', query, token, name), name, query, token, None)
+
+    def move(self):
+        """Moves a claim to a candidate of its query. Sometimes the name isn't in use, so both must refuse."""
+        name = self.name(0.95)
+        query, own = self.held[name] if name in self.held else (self.chance.choice(list(self.seen)), None)
+        token = self.pick(query, own)
+        generation = self.service.do('GET', f'/allocations/{name}').get('consumer_generation', 1)
+        self.put(('move', name, token), name, query, token, generation)
+
+    def release(self):
+        """Releases a claim. Sometimes it is sent twice, so both must refuse the second."""
+        name = self.name(1)
+        for _ in range(self.chance.choice((1, 1, 1, 2))):
+            self.send(('release', name), 'DELETE', name, self.held[name][1].split(','))
+        del self.held[name]
+        self.free.append(name)
+
+    def name(self, share):
+        """A name in use, in this share of all cases, and of each query as often; or else one that isn't: a new one, or one that was released or refused."""
+        if self.held and self.chance.random() < share:
+            wanted = self.chance.choice(sorted({query for query, _ in self.held.values()}))
+            return self.chance.choice([name for name, (query, _) in self.held.items() if query == wanted])
+        return self.free.pop() if self.free and self.chance.random() < 0.3 else str(uuid.UUID(int=self.chance.getrandbits(128), version=4))
+
+    def pick(self, query, own=None):
+        """The token of a candidate of now, or often of another one of before, which may not fit any more; `own` if there is neither."""
+        now = self.candidates(query)
+        before = [token for token in self.seen.get(query, ()) if token not in now and token != own]
+        some = before if before and (not now or self.chance.random() < 0.7) else now
+        return self.chance.choice(some or [own])
+
+    def candidates(self, query):
+        """The tokens of the candidates of now, which must be those of the service; none if `explain` says that they may differ."""
+        if any(line.startswith('differs: ') for line in self.session.explain(query)):
+            self.counts['queries left out'] += 1
+            return []
+        status, body = self.service.candidates(query)
+        mine, tokens = self.session.candidates(query), self.session.tokens(query)
+        if status != 200 or canonical(mine) != canonical(body):
+            raise Differs(f'{query}: the service {status} {body}, the session {mine}')
+        self.counts['comparisons of candidates'] += 1
+        if tokens:
+            self.seen.setdefault(query, {}).update(zip(tokens, mine['allocation_requests']))
+        return tokens
+
+    def put(self, words, name, query, token, generation):
+        """Gives a consumer the allocations of this candidate, in place of those that it has."""
+        before = self.held[name][1].split(',') if name in self.held else []
+        request = {**self.seen[query][token], 'project_id': 'try', 'user_id': 'try', 'consumer_generation': generation}
+        if self.send(words, 'PUT', name, {*before, *token.split(',')}, request):
+            self.held[name] = query, token
+        elif name not in self.held:
+            self.free.append(name)
+
+    def send(self, words, method, name, providers, request=None):
+        """Sends this request for a consumer to the service, and these words to the session. Afterwards the same must be in use, of these providers too.
+        Whether the request was done."""
+        status, body = self.service.ask(method, f'/allocations/{name}', request)
+        answer = self.session.answer(*words)
+        line, what = SAME.get((words[0], status, body['errors'][0]['code'] if isinstance(body, dict) else ''), (None, None))
+        if answer != ([line], int(status != 204), ''):
+            raise Differs(f'{" ".join(words)}: the service {status} {body}, the session {answer}')
+        self.counts[what] += 1
+        self.look(providers)
+        return status == 204
+
+    def look(self, providers):
+        """Compares what is in use. The service is asked of these providers; of the others it must be what was in use when they were asked last."""
+        for provider in providers:
+            self.used[provider] = self.service.do('GET', f'/resource_providers/{provider}/usages')['usages']
+        its = {(provider, name): amount for provider, used in self.used.items() for name, amount in used.items() if amount}
+        mine = self.session.usages()
+        if mine != its:
+            raise Differs(f'in use: only at the service {sorted(its.items() - mine.items())}, only in the session {sorted(mine.items() - its.items())}')
+        self.counts['comparisons of usages'] += 1
+
+
 class Trial:
     """What is tried over one service, and how it went."""
 
@@ -524,8 +653,25 @@ class Trial:
             code, out, err = self.ask('candidates', folder, query)
             return (200, json.loads(out)) if code in (0, 1) else (400, err)
 
+    def traces(self, number):
+        """Tries traces, each over a random cloud, in a session over the tables of what the service then has."""
+        counts = collections.Counter()
+        for seed in range(number):
+            chance = random.Random(seed)
+            cloud = drawn(chance.randint(3, 6), seed)
+            self.service.fill(cloud)
+            with tempfile.TemporaryDirectory() as folder:
+                write(folder, self.service.cloud())
+                try:
+                    with ac_session.Session(folder, program=self.program) as session:
+                        Trace(self.service, session, cloud, chance, counts).run()
+                except (Differs, Refused, ac_session.Refused, ac_session.Ended) as fault:
+                    counts['bad'] += 1
+                    print(f'       trace {seed}: {fault}')
+        self.say(not counts['bad'], f'{number} traces: {", ".join(f"{counts[what]} {what}" for what in COUNTED)}')
 
-def main(url, program, name, *client):
+
+def main(url, program, name, traces, *client):
     trial = Trial(url, program, name, client)
     try:
         status, first = trial.service.ask('GET', '/')
@@ -545,6 +691,8 @@ def main(url, program, name, *client):
             trial.moving()
         trial.differ()
         trial.gabbi()
+        if int(traces):
+            trial.traces(int(traces))
     finally:
         trial.service.clear()
     print(f'{trial.passed} passed, {trial.failed} failed')

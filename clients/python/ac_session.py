@@ -15,7 +15,7 @@ import re
 import subprocess
 import tempfile
 import threading
-from typing import Dict, Iterable, Iterator, List, NamedTuple, Optional, Sequence, Tuple
+from typing import Dict, Iterable, Iterator, List, NamedTuple, Optional, Sequence, Tuple, Union
 
 __all__ = ['Answer', 'Count', 'Ended', 'Host', 'Left', 'Placement', 'Refused', 'Session']
 
@@ -204,25 +204,46 @@ class Session:
 
     # ---- Claims
 
-    def claim(self, query: str, token: str) -> Optional[Placement]:
-        """Claims a candidate; None where it isn't one any more."""
-        return Placement(query, token) if self.ask('claim', query, token).status == 0 else None
+    def claim(self, query: str, token: str, name: Optional[str] = None) -> Optional[Placement]:
+        """Claims a candidate, for which a name may stand; None where it isn't one any more, or the name is in use.
 
-    def place(self, query: str) -> Optional[Placement]:
-        """Claims the first candidate; None where there is none.
+        >>> with Session('examples/cloud') as session:
+        ...     [session.claim('resources=VCPU:1', 'b48d0f61-9e2c-4c7a-83d5-e6047b15ac05', name) for name in ('one', 'one')]
+        [Placement(query='resources=VCPU:1', token='b48d0f61-9e2c-4c7a-83d5-e6047b15ac05'), None]"""
+        named = [] if name is None else [name]
+        return Placement(query, token) if self.ask('claim', query, token, *named).status == 0 else None
+
+    def place(self, query: str, name: Optional[str] = None) -> Optional[Placement]:
+        """Claims the first candidate, for which a name may stand; None where there is none, or the name is in use.
 
         >>> with Session('examples/cloud') as session:
         ...     placed = session.place('resources=VCPU:8')
         ...     placed.providers, session.place('resources=VCPU:8'), session.release(placed)
         (['6a90b2f4-c71d-4e05-a5c8-20f3e8d71b03'], None, True)"""
         pairs = [pair for pair in query.split('&') if not pair.startswith('limit=')]
-        for token in self.ask('fill', '&'.join([*pairs, 'limit=1'])).lines:
-            return Placement('&'.join(pairs), token)
+        for token in self.ask('fill' if name is None else 'tokens', '&'.join([*pairs, 'limit=1'])).lines:
+            placed = Placement('&'.join(pairs), token)
+            return placed if name is None else self.claim(*placed, name)
         return None
 
-    def release(self, placed: Placement) -> bool:
-        """Gives back what a claim took; False where so much isn't in use."""
-        return self.ask('release', *placed).status == 0
+    def release(self, placed: Union[Placement, str]) -> bool:
+        """Gives back what a claim took, or what a name stands for, which is free then; False where so much isn't in use, or it stands for nothing.
+
+        >>> with Session('examples/cloud') as session:
+        ...     session.place('resources=VCPU:8', 'one').providers, session.release('one'), session.release('one')
+        (['6a90b2f4-c71d-4e05-a5c8-20f3e8d71b03'], True, False)"""
+        return self.ask('release', *([placed] if isinstance(placed, str) else placed)).status == 0
+
+    def move(self, name: str, token: str) -> bool:
+        """Gives back what a name stands for, and claims the same by another token, at once; False where that is no candidate then, or as with `release`, and
+        nothing changes.
+
+        >>> with Session('examples/cloud') as session:
+        ...     session.place('resources=VCPU:4', 'one').providers
+        ...     session.move('one', '6a90b2f4-c71d-4e05-a5c8-20f3e8d71b03'), session.move('one', 'b48d0f61-9e2c-4c7a-83d5-e6047b15ac05')
+        ['3c5e81d7-02a9-4f6b-8e34-b19d6a7f0c02']
+        (True, False)"""
+        return self.ask('move', name, token).status == 0
 
     def fill(self, query: str) -> List[Placement]:
         """Claims as many of the same as fit, one after another, or as many as the query's `limit` says."""

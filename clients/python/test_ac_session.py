@@ -4,7 +4,7 @@ import sys
 import tempfile
 
 sys.dont_write_bytecode = True
-from ac_session import Count, Ended, Refused, Session  # noqa: E402
+from ac_session import Count, Ended, Placement, Refused, Session  # noqa: E402
 
 PROGRAM = sys.argv[1]
 CLOUD = 'examples/cloud'
@@ -41,6 +41,27 @@ with Session(CLOUD, program=PROGRAM) as session:
     found = session.tokens('resources=VCPU:1')
     assert session.tokens('resources=VCPU:1', after=found[0]) == found[1:]
     assert len(session.candidates('resources=VCPU:1')['allocation_requests']) == len(found)
+
+# Claims by name: each is placed, moved and given back by it; what fails changes nothing.
+ONE, OTHER, FULL = '6a90b2f4-c71d-4e05-a5c8-20f3e8d71b03', '3c5e81d7-02a9-4f6b-8e34-b19d6a7f0c02', 'b48d0f61-9e2c-4c7a-83d5-e6047b15ac05'
+SIX = 'resources=VCPU:6'
+with Session(CLOUD, program=PROGRAM) as session:
+    before = session.usages()
+    assert session.claim(SIX, ONE, 'one') == (SIX, ONE) and session.claim(VCPU, OTHER, 'one') is None and session.claim('x', 'y', 'one') is None
+    assert session.place(SIX + '&limit=7', 'two') == (SIX, OTHER) and session.place(VCPU, 'two') is None and session.place(SIX, 'three') is None
+    assert {place: used - before[place] for place, used in session.usages().items() if used != before[place]} == {(ONE, 'VCPU'): 6, (OTHER, 'VCPU'): 6}
+    then = session.usages()
+    assert not any(session.move(name, token) for name, token in (('one', OTHER), ('one', FULL), ('one', ONE[:-1] + '4'), ('three', ONE), ('three', 'x')))
+    assert refused_by(Refused, lambda: session.move('one', 'x')).line == 'token: BadToken' and session.usages() == then
+    assert session.release('two') and not session.release('two') and session.move('one', OTHER) and session.claim(SIX, ONE, 'two')
+    assert session.usages() == then
+    assert session.release(Placement(SIX, ONE)) and not session.release('two') and not session.move('two', ONE) and session.claim(SIX, ONE, 'two') is None
+    assert session.claim(SIX, ONE) and session.release('one') and session.release('two') and session.usages() == before
+    for odd in '=', '#', '"', 'x' * 65536:
+        assert session.place(VCPU, odd) and session.place(VCPU, odd) is None and session.move(odd, ONE) and session.release(odd), odd[:9]
+    for call in (lambda: session.claim(VCPU, ONE, ''), lambda: session.place(VCPU, 'a b'), lambda: session.release(''), lambda: session.move('', ONE)):
+        refused_by(ValueError, call)
+    assert session.usages() == before
 
 # A question that is refused changes nothing; one with blanks isn't asked.
 with Session(CLOUD, '--tries', '1', program=PROGRAM) as session:

@@ -66,7 +66,9 @@ FAKE = 'mkdir rt-here && printf \'#!/bin/sh\\necho "$@" >>"%s/asked"\\ntest "$1"
 def releases(sample):
     """Cases over the release that stands here; `sample` is what the program says without words."""
     shells = [shell for shell in ('bash', 'dash', 'busybox sh') if shutil.which(shell.split()[0])]
-    yield from (released(f'the first answer comes within a second, by {shell}', f'exec timeout 1 {shell} ./ac_cli', sample) for shell in shells)
+    # By the time of a processor and not by the clock, which counts what else runs on the machine.
+    spent = 'tail -n 1 spent | tr ms "  " | awk \'{ exit !($1 + $3 == 0 && $2 + $4 < 1) }\''
+    yield from (released(f'the first answer takes less than a second of a processor, by {shell}', f'bash -c "{shell} ./ac_cli; times >spent"; {spent}', sample) for shell in shells)
     yield released('in a clone by git too', 'git init -q . && git add -A . && ./ac_cli', sample)
     yield released('a second call unpacks nothing', './ac_cli >/dev/null && mv release elsewhere && ./ac_cli', sample)
     yield released('two first calls at once', './ac_cli >one & ./ac_cli >two; wait; cat one two; ls out', sample * 2 + 'ac_cli\n')

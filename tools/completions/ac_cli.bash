@@ -24,7 +24,7 @@ _ac_cli() {
         ;;
     esac
     if [[ $COMP_CWORD == 1 ]]; then
-        offered='check candidates tokens list fill verify explain hosts why capacity audit session help --help --version'
+        offered='check candidates tokens list fill verify explain hosts why capacity compare audit session help --help --version'
     else
         case ${COMP_WORDS[1]} in
         check) offered='--tables --providers --inventories --usages --traits --aggregates --detail --help' ;;
@@ -37,9 +37,10 @@ _ac_cli() {
         hosts) offered='--tables --providers --inventories --usages --traits --aggregates --detail --microversion --tries --in --sum --help' ;;
         why) offered='--tables --providers --inventories --usages --traits --aggregates --detail --microversion --tries --help' ;;
         capacity) offered='--tables --providers --inventories --usages --traits --aggregates --detail --microversion --tries --prometheus --help' ;;
+        compare) offered='--tables --providers --inventories --usages --traits --aggregates --detail --microversion --tries --help' ;;
         audit) offered='--tables --providers --inventories --usages --traits --aggregates --detail --zone --help' ;;
         session) offered='--tables --providers --inventories --usages --traits --aggregates --detail --microversion --tries --help' ;;
-        help) offered='check candidates tokens list fill verify explain hosts why capacity audit session help' ;;
+        help) offered='check candidates tokens list fill verify explain hosts why capacity compare audit session help' ;;
         esac
     fi
     mapfile -t COMPREPLY < <(compgen -W "$offered" -- "$word")

@@ -46,15 +46,15 @@ module _ {R : Type 0} (remaining : R → Option (List ℕ)) (from : FiveTables R
   }
 
 module _ {R Q : Type 0} (remaining : R → Option (List ℕ)) (failures : R → ℕ) (asked : Q → Option (List ℕ)) (fails : Q → ℕ) (line : Line)
-    (flavors : List ℕ) (from to : FiveTables R) (questions : Q) (s : Streams) (given : ℕ) where
+    (file : List ℕ) (from to : FiveTables R) (questions : Q) (s : Streams) (given : ℕ) where
   abbrev Called : Option Task → Type 0
   Called task = RanCall remaining failures asked fails task line from to questions s given
 
-  pub ran_call : (task : Task) → Some task ≡ task_in line flavors (detail_in line) → RanJob remaining failures task from to s given → Called (task_in line flavors (detail_in line))
+  pub ran_call : (task : Task) → Some task ≡ task_in line file (detail_in line) → RanJob remaining failures task from to s given → Called (task_in line file (detail_in line))
   ran_call task is ran = subst Called is ran
 
-  pub held_call : (detail : Option Paths) (version : Version) (tries : Option ℕ) → None ≡ task_in line flavors (detail_in line) → detail ≡ detail_in line → version ≡ line.version → tries ≡ line.tries
-      → HeldSession remaining failures asked fails detail version tries from to questions s given → Called (task_in line flavors (detail_in line))
+  pub held_call : (detail : Option Paths) (version : Version) (tries : Option ℕ) → None ≡ task_in line file (detail_in line) → detail ≡ detail_in line → version ≡ line.version → tries ≡ line.tries
+      → HeldSession remaining failures asked fails detail version tries from to questions s given → Called (task_in line file (detail_in line))
   held_call detail version tries is same read bound held =
       subst Called is
       (subst (λ (d : Option Paths). HeldSession remaining failures asked fails d line.version line.tries from to questions s given) same

@@ -1,9 +1,9 @@
--- The files of the tables: which was opened for which; and the bytes of the table of flavors.
+-- The files of the tables: which was opened for which; and the bytes of the file that is read beside them.
 use Rattle.std.specs.Prelude.{⊤, List, ℕ, Option, Some, None}
 use Rattle.ac_base.specs.Devices.{Rises}
 use Rattle.ac_run.specs.Tasks.{Paths}
-use Rattle.ac_cli.specs.declared.files.FlavorsUnread.{FlavorsUnread}
-use Rattle.ac_cli.specs.declared.files.FlavorsUnread.TheVariants as unread
+use Rattle.ac_cli.specs.declared.files.FileUnread.{FileUnread}
+use Rattle.ac_cli.specs.declared.files.FileUnread.TheVariants as unread
 use Rattle.ac_tables.specs.Drain.{AllBytes, AreTooMany}
 use Rattle.ac_tables.specs.FiveTables.{table_in}
 use Rattle.ac_tables.specs.declared.fault.Table.{Table}
@@ -20,7 +20,7 @@ IsOpened opens (Some path) (Some feed) = opens path feed
 abbrev pub AreOpened : {R : Type 0} → (List ℕ → R → Type 0) → Paths → FiveTables R → Type 0
 AreOpened opens paths inputs = (t : Table) → IsOpened opens (table_in paths t) (table_in inputs t)
 
--- ---- the table of flavors
+-- ---- a file beside them
 
 -- What was opened at a path gave all these bytes.
 pub record Holds {R : Type 0} (opens : List ℕ → R → Type 0) (remaining : R → Option (List ℕ)) (path bytes : List ℕ) : Type 0 where
@@ -29,12 +29,12 @@ pub record Holds {R : Type 0} (opens : List ℕ → R → Type 0) (remaining : R
   pub all : AllBytes (remaining file) bytes
 
 -- where a path is given for it
-abbrev pub HoldsFlavors : {R : Type 0} → (List ℕ → R → Type 0) → (R → Option (List ℕ)) → Option (List ℕ) → List ℕ → Type 0
-HoldsFlavors opens remaining None bytes = ⊤
-HoldsFlavors opens remaining (Some path) bytes = Holds opens remaining path bytes
+abbrev pub HoldsFile : {R : Type 0} → (List ℕ → R → Type 0) → (R → Option (List ℕ)) → Option (List ℕ) → List ℕ → Type 0
+HoldsFile opens remaining None bytes = ⊤
+HoldsFile opens remaining (Some path) bytes = Holds opens remaining path bytes
 
 -- why its bytes can't be had: its path was refused, or what was opened there failed, or had too many; or memory gave out
-abbrev pub ExplainsUnread : {R : Type 0} → (List ℕ → R → Type 0) → (List ℕ → List ℕ → Type 0) → (R → Option (List ℕ)) → (R → ℕ) → List ℕ → FlavorsUnread → Type 0
+abbrev pub ExplainsUnread : {R : Type 0} → (List ℕ → R → Type 0) → (List ℕ → List ℕ → Type 0) → (R → Option (List ℕ)) → (R → ℕ) → List ℕ → FileUnread → Type 0
 ExplainsUnread {R} opens refuses remaining failures path (unread.Unopened reason) = refuses path reason.now
 ExplainsUnread {R} opens refuses remaining failures path unread.Failed = (from : R) × (to : R) × opens path from × Rises (failures from) (failures to)
 ExplainsUnread {R} opens refuses remaining failures path unread.TooLarge = (from : R) × opens path from × AreTooMany (remaining from)

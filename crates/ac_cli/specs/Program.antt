@@ -1,5 +1,5 @@
 -- How the program ends, and what it leaves on its streams.
-use Rattle.std.specs.Prelude.{◌≡◌, ◌≢◌, ◌<◌, ◌≤◌, ◌⊎◌, ℕ, zero, List, [], ◌∷◌, ◌++◌, codes, length, nat_le, Option, Some, None, Contains, if◌then◌else◌}
+use Rattle.std.specs.Prelude.{◌≡◌, ◌≢◌, ◌<◌, ◌≤◌, ◌⊎◌, ℕ, zero, List, [], ◌∷◌, ◌++◌, codes, length, nat_le, Option, Some, None, Contains, if◌then◌else◌, Bool, true, false}
 use Rattle.std.specs.Io.KnownBytes.{Appends, Keeps, append_known}
 use Rattle.clap.specs.Words.{IsAmong, Kinds, Row, Text}
 use Rattle.clap.specs.declared.error.kind.ErrorKind.{ErrorKind}
@@ -13,7 +13,8 @@ use Rattle.ac_remedies.specs.Tables.{unread_remedy}
 use Rattle.ac_run.specs.Answer.{Outcome, answer}
 use Rattle.ac_run.specs.Feeds.{Bytes, FeedRose, TellBytes}
 use Rattle.ac_run.specs.Flavors.{large_line, unread_line}
-use Rattle.ac_run.specs.Lines.{memory_line, output_line, tries_line, unreadable_line}
+use Rattle.ac_run.specs.Lines.{answer_line, memory_line, output_line, tries_line, unreadable_line}
+use Rattle.ac_run.specs.declared.refusal.AnswerRefusal.TheVariants as answer
 use Rattle.ac_run.specs.Notes.{noted}
 use Rattle.ac_run.specs.Run.{FailsOr, IsAnswered, IsRefused, IsUnread}
 use Rattle.ac_base.specs.Writing.{TakesLine}
@@ -21,15 +22,16 @@ use Rattle.ac_run.specs.Stops.{TaskMayStop}
 use Rattle.ac_run.specs.Tasks.{Command, Paths, Task, check, tokens}
 use Rattle.ac_session.specs.Lines.{most_passed}
 use Rattle.ac_run.specs.Wanted.Given.{tables_in}
+use Rattle.ac_session.specs.Held.{unnamed}
 use Rattle.ac_session.specs.Sessions.{AreUnread, session_answer, session_answer_with}
 use Rattle.ac_session.specs.Tries.{AreStops}
 use Rattle.ac_session.specs.Turns.{lines_in}
 use Rattle.ac_tables.specs.Tables.{world_stated}
 use Rattle.ac_tables.specs.declared.read.FiveTables.{FiveTables}
-use Rattle.ac_cli.specs.Files.{AreOpened, ExplainsUnread, HoldsFlavors}
-use Rattle.ac_cli.specs.declared.files.FlavorsUnread.{FlavorsUnread}
-use Rattle.ac_cli.specs.declared.files.FlavorsUnread.TheVariants as unread
-use Rattle.ac_words.specs.Words.{Line, Says, faults, flavors_called, named, task_in}
+use Rattle.ac_cli.specs.Files.{AreOpened, ExplainsUnread, HoldsFile}
+use Rattle.ac_cli.specs.declared.files.FileUnread.{FileUnread}
+use Rattle.ac_cli.specs.declared.files.FileUnread.TheVariants as unread
+use Rattle.ac_words.specs.Words.{Line, Says, calls_answer, faults, file_called, named, task_in}
 use Rattle.ac_words.specs.declared.name.Name.{Name}
 use Rattle.ac_tables.specs.FiveTables.{table_in}
 
@@ -152,7 +154,7 @@ pub record RanSession {R Q : Type 0} (remaining : R → Option (List ℕ)) (trie
 
 -- the searches of a session may stop so, over the bytes of five tables
 abbrev pub SessionMayStop : Option ℕ → Version → Bytes → Stops → List ℕ → Type 0
-SessionMayStop tries version b stops q = AreStops tries version (world_stated (tables_in b)) stops (lines_in q)
+SessionMayStop tries version b stops q = AreStops tries version (unnamed (world_stated (tables_in b))) stops (lines_in q)
 
 -- a session was held over feeds of tables that were these before and after, with these questions
 abbrev pub HeldSession : {R Q : Type 0} → (R → Option (List ℕ)) → (R → ℕ) → (Q → Option (List ℕ)) → (Q → ℕ)
@@ -191,27 +193,40 @@ pub record IsUnopened (refuses : List ℕ → List ℕ → Type 0) (line : Line)
   pub told : IsToldUnopened (detail_in line) table path reason (IsLine s) given
   pub output : s.out_new ≡ s.out_old
 
--- what is told of a table of flavors that can't be read; where more is told, with the reason, if one was given
-abbrev pub unread_told : Option Paths → Text → Option Text → List ℕ
-unread_told None path reason = unread_line
-unread_told (Some paths) path reason = unread_line ++ unread_remedy path reason
+-- the line of a file that can't be read, of one with too many bytes, and their status: of an answer of the service, or of a table of flavors
+abbrev pub unread_said : Bool → List ℕ
+unread_said true = answer_line answer.Unreadable
+unread_said false = unread_line
 
--- it is told that the bytes of a table of flavors can't be had, or else want of memory for that
-abbrev pub IsToldUnread : Option Paths → Text → FlavorsUnread → (List ℕ → Type 0) → ℕ → Type 0
-IsToldUnread detail path (unread.Unopened reason) Told given =
-    (Told (unread_told detail path (Some reason.now)) × (given ≡ 4)) ⊎ (Told memory_line × (given ≡ 7))
-IsToldUnread detail path unread.Failed Told given = (Told (unread_told detail path None) × (given ≡ 4)) ⊎ (Told memory_line × (given ≡ 7))
-IsToldUnread detail path unread.TooLarge Told given = Told large_line × (given ≡ 4)
-IsToldUnread detail path unread.NoMemory Told given = Told memory_line × (given ≡ 7)
+abbrev pub large_said : Bool → List ℕ
+large_said true = answer_line answer.TooLarge
+large_said false = large_line
 
--- The bytes of the table of flavors can't be had, which is told.
-pub record LacksFlavors {R : Type 0} (opens : List ℕ → R → Type 0) (refuses : List ℕ → List ℕ → Type 0) (remaining : R → Option (List ℕ)) (failures : R → ℕ)
+abbrev pub file_status : Bool → ℕ
+file_status true = 5
+file_status false = 4
+
+-- what is told of a file that can't be read; where more is told, with the reason, if one was given
+abbrev pub unread_told : Bool → Option Paths → Text → Option Text → List ℕ
+unread_told of None path reason = unread_said of
+unread_told of (Some paths) path reason = unread_said of ++ unread_remedy path reason
+
+-- it is told that the bytes of a file can't be had, or else want of memory for that
+abbrev pub IsToldUnread : Bool → Option Paths → Text → FileUnread → (List ℕ → Type 0) → ℕ → Type 0
+IsToldUnread of detail path (unread.Unopened reason) Told given =
+    (Told (unread_told of detail path (Some reason.now)) × (given ≡ file_status of)) ⊎ (Told memory_line × (given ≡ 7))
+IsToldUnread of detail path unread.Failed Told given = (Told (unread_told of detail path None) × (given ≡ file_status of)) ⊎ (Told memory_line × (given ≡ 7))
+IsToldUnread of detail path unread.TooLarge Told given = Told (large_said of) × (given ≡ file_status of)
+IsToldUnread of detail path unread.NoMemory Told given = Told memory_line × (given ≡ 7)
+
+-- The bytes of the file that is read beside the tables can't be had, which is told.
+pub record LacksFile {R : Type 0} (opens : List ℕ → R → Type 0) (refuses : List ℕ → List ℕ → Type 0) (remaining : R → Option (List ℕ)) (failures : R → ℕ)
     (line : Line) (s : Streams) (given : ℕ) : Type 0 where
   pub path : Text
-  pub named : flavors_called line.call ≡ Some path
-  pub why : FlavorsUnread
+  pub named : file_called line.call ≡ Some path
+  pub why : FileUnread
   pub because : ExplainsUnread opens refuses remaining failures path why
-  pub told : IsToldUnread (detail_in line) path why (IsLine s) given
+  pub told : IsToldUnread (calls_answer line.call) (detail_in line) path why (IsLine s) given
   pub output : s.out_new ≡ s.out_old
 
 -- What a line calls for was done over what was opened at its paths.
@@ -220,15 +235,15 @@ pub record RanOpened {R Q : Type 0} (opens : List ℕ → R → Type 0) (remaini
   pub from : FiveTables R
   pub to : FiveTables R
   pub files : AreOpened opens line.paths from
-  pub flavors : List ℕ
-  pub held : HoldsFlavors opens remaining (flavors_called line.call) flavors
-  pub ran : RanCall remaining failures asked fails (task_in line flavors (detail_in line)) line from to questions s status
+  pub file : List ℕ
+  pub held : HoldsFile opens remaining (file_called line.call) file
+  pub ran : RanCall remaining failures asked fails (task_in line file (detail_in line)) line from to questions s status
 
 abbrev pub EndsForLine : {R Q : Type 0} → (List ℕ → R → Type 0) → (List ℕ → List ℕ → Type 0) → (R → Option (List ℕ)) → (R → ℕ) → (Q → Option (List ℕ)) → (Q → ℕ)
     → Q → Line → Streams → ℕ → Type 0
 EndsForLine opens refuses remaining failures asked fails questions line s given =
     IsUnopened refuses line s given
-    ⊎ (LacksFlavors opens refuses remaining failures line s given ⊎ RanOpened opens remaining failures asked fails questions line s given)
+    ⊎ (LacksFile opens refuses remaining failures line s given ⊎ RanOpened opens remaining failures asked fails questions line s given)
 
 -- ---- all words
 

@@ -1,4 +1,4 @@
-//! The files of the tables, and that of the table of flavors.
+//! The files of the tables, and the one that is read beside them.
 ghost use Rattle.std.specs.Prelude.{◌≡◌, IfErr, IfOk, Some, option_map};
 ghost use Rattle.ac_cli.specs.Files.{AreOpened, ExplainsUnread, Holds, IsOpened};
 ghost use Rattle.ac_run.specs.Tasks.{paths_shown};
@@ -70,9 +70,9 @@ pub fn opened_inputs<'a, H: Host>(
     })
 }
 
-/// Why the bytes of a table of flavors can't be had.
+/// Why the bytes of a file can't be had.
 #[derive(Clone, Copy, Debug)]
-pub enum FlavorsUnread {
+pub enum FileUnread {
     /// Its file can't be opened, for this reason.
     Unopened(&'static str),
     /// Its file failed.
@@ -83,8 +83,8 @@ pub enum FlavorsUnread {
     NoMemory,
 }
 
-/// The bytes of the table of flavors at a path.
-pub fn read_flavors<H: Host>(alloc: Global, host: &H, path: &str) -> Result<Vec<u8>, FlavorsUnread>
+/// The bytes of the file at a path.
+pub fn read_file<H: Host>(alloc: Global, host: &H, path: &str) -> Result<Vec<u8>, FileUnread>
     ensures bytes { IfOk result (λ bytes.
         Holds (H.opens host.now) H.File.remaining path.now bytes.items) }
     ensures fault { IfErr result (ExplainsUnread (H.opens host.now) (H.refuses host.now)
@@ -92,12 +92,12 @@ pub fn read_flavors<H: Host>(alloc: Global, host: &H, path: &str) -> Result<Vec<
 {
     let mut file = match host.open(path) {
         Ok(file) => file,
-        Err(reason) => return Err(FlavorsUnread::Unopened(reason)),
+        Err(reason) => return Err(FileUnread::Unopened(reason)),
     };
     match drain(alloc, &mut file) {
         Ok(bytes) => Ok(bytes),
-        Err(ReadFault::Unreadable) => Err(FlavorsUnread::Failed),
-        Err(ReadFault::TooLarge) => Err(FlavorsUnread::TooLarge),
-        Err(ReadFault::NoMemory) => Err(FlavorsUnread::NoMemory),
+        Err(ReadFault::Unreadable) => Err(FileUnread::Failed),
+        Err(ReadFault::TooLarge) => Err(FileUnread::TooLarge),
+        Err(ReadFault::NoMemory) => Err(FileUnread::NoMemory),
     }
 }

@@ -7,19 +7,20 @@ ghost use Rattle.ac_run.specs.Feeds.{Bytes, TellBytes};
 ghost use Rattle.ac_run.specs.Lines.{memory_line};
 ghost use Rattle.ac_run.specs.Notes.{noted};
 ghost use Rattle.ac_run.specs.Tasks.{command_shown, detail_shown, paths_shown, task_of};
-ghost use Rattle.ac_cli.specs.Program.{EndsForLine, EndsForWords, EndsProgram, HeldSession, IsShown, IsToldUnopened, IsToldUnread, RanCall, RanJob, RanSample, RanTask, detail_in, note_behind, seen, unread_told};
-ghost use Rattle.ac_cli.specs.Files.{ExplainsUnread, HoldsFlavors};
-ghost use Rattle.ac_words.specs.Words.{flavors_called, task_in};
+ghost use Rattle.ac_cli.specs.Program.{EndsForLine, EndsForWords, EndsProgram, HeldSession, IsShown, IsToldUnopened, IsToldUnread, RanCall, RanJob, RanSample, RanTask, detail_in, file_status, large_said, note_behind, seen, unread_said, unread_told};
+ghost use Rattle.ac_run.specs.Refusals.{line_of, status_of};
+ghost use Rattle.ac_cli.specs.Files.{ExplainsUnread, HoldsFile};
+ghost use Rattle.ac_words.specs.Words.{file_called, task_in};
 
-use crate::files::{FlavorsUnread, Unopened, opened_inputs, read_flavors};
+use crate::files::{FileUnread, Unopened, opened_inputs, read_file};
 use crate::host::{Host, Unworded};
 use crate::sample;
 use ac_base::{Feed, FromRead, Gathering, Sink, push_all};
 use ac_query::Version;
 use ac_remedies::unread_remedy;
 use ac_run::{
-    AskRefusal, Command, FlavorsRefusal, Inputs, Job, Paths, Refusal, Refused, TablesRefusal, run,
-    tell,
+    AnswerRefusal, AskRefusal, Command, FlavorsRefusal, Inputs, Job, Paths, Refusal, Refused,
+    TablesRefusal, run, tell,
 };
 use ac_session::{Lines, run_session};
 use ac_words::{WordFault, Words, read_words};
@@ -155,20 +156,46 @@ fn tell_unopened<E: Sink>(
     tell(err, &Refused::new(alloc, refusal, remedy))
 }
 
-// Tells that the bytes of a table of flavors can't be read, for a reason, where one is known: its status.
+// Why a file can't be read: an answer of the service, or a table of flavors.
+fn unreadable(answer: bool) -> Refusal
+    ensures line { line_of result ≡ unread_said answer }
+    ensures status { status_of result ≡ file_status answer }
+{
+    if answer {
+        Refusal::Asked(AskRefusal::Answer(AnswerRefusal::Unreadable))
+    } else {
+        Refusal::Asked(AskRefusal::Flavors(FlavorsRefusal::Unreadable))
+    }
+}
+
+// It has too many bytes.
+fn too_large(answer: bool) -> Refusal
+    ensures line { line_of result ≡ large_said answer }
+    ensures status { status_of result ≡ file_status answer }
+{
+    if answer {
+        Refusal::Asked(AskRefusal::Answer(AnswerRefusal::TooLarge))
+    } else {
+        Refusal::Asked(AskRefusal::Flavors(FlavorsRefusal::TooLarge))
+    }
+}
+
+// Tells that the bytes of a file can't be read, for a reason, where one is known: its status.
 fn tell_unreadable<E: Sink>(
     alloc: Global,
+    answer: bool,
     detail: Option<&Paths<'_>>,
     path: &str,
     reason: Option<&'static str>,
     err: &mut E,
 ) -> u8
     ensures { (TakesLine (E.taken err.old) (E.taken err.new) (E.failures err.old)
-        (E.failures err.new) (unread_told (detail_shown detail.entry) path.now
-        (option_map (λ r. r.now) reason.entry)) × (result ≡ 4)) ⊎ (TakesLine (E.taken err.old)
-        (E.taken err.new) (E.failures err.old) (E.failures err.new) memory_line × (result ≡ 7)) }
+        (E.failures err.new) (unread_told answer (detail_shown detail.entry) path.now
+        (option_map (λ r. r.now) reason.entry)) × (result ≡ file_status answer))
+        ⊎ (TakesLine (E.taken err.old) (E.taken err.new) (E.failures err.old)
+        (E.failures err.new) memory_line × (result ≡ 7)) }
 {
-    let refusal = Refusal::Asked(AskRefusal::Flavors(FlavorsRefusal::Unreadable));
+    let refusal = unreadable(answer);
     if detail.is_none() {
         return tell(err, &Refused::of(alloc, refusal));
     }
@@ -176,42 +203,43 @@ fn tell_unreadable<E: Sink>(
     tell(err, &Refused::new(alloc, refusal, remedy))
 }
 
-// Tells why the bytes of a table of flavors can't be had: its status.
+// Tells why the bytes of a file can't be had: its status.
 fn tell_unread<E: Sink>(
     alloc: Global,
+    answer: bool,
     detail: Option<&Paths<'_>>,
     path: &str,
-    unread: FlavorsUnread,
+    unread: FileUnread,
     err: &mut E,
 ) -> u8
-    ensures { IsToldUnread (detail_shown detail.entry) path.now unread (λ line. TakesLine
+    ensures { IsToldUnread answer (detail_shown detail.entry) path.now unread (λ line. TakesLine
         (E.taken err.old) (E.taken err.new) (E.failures err.old) (E.failures err.new) line) result }
 {
     let refusal = match unread {
-        FlavorsUnread::Unopened(reason) => {
-            return tell_unreadable(alloc, detail, path, Some(reason), err);
+        FileUnread::Unopened(reason) => {
+            return tell_unreadable(alloc, answer, detail, path, Some(reason), err);
         }
-        FlavorsUnread::Failed => return tell_unreadable(alloc, detail, path, None, err),
-        FlavorsUnread::TooLarge => Refusal::Asked(AskRefusal::Flavors(FlavorsRefusal::TooLarge)),
-        FlavorsUnread::NoMemory => Refusal::NoMemory,
+        FileUnread::Failed => return tell_unreadable(alloc, answer, detail, path, None, err),
+        FileUnread::TooLarge => too_large(answer),
+        FileUnread::NoMemory => Refusal::NoMemory,
     };
     tell(err, &Refused::of(alloc, refusal))
 }
 
-// The bytes of the table of flavors, where the words ask for one; else its path, and why they can't be had.
-fn flavors_of<'a, H: Host>(
+// The bytes of the file that is read beside the tables, where the words ask for one; else its path, and why they can't be had.
+fn file_of<'a, H: Host>(
     alloc: Global,
     host: &H,
     words: &'a Words,
-) -> Result<Vec<u8>, (&'a str, FlavorsUnread)>
-    ensures held { IfOk result (λ bytes. HoldsFlavors (H.opens host.now) H.File.remaining
-        (flavors_called words.now.call) bytes.items) }
-    ensures fault { IfErr result (λ lack. (flavors_called words.now.call ≡ Some lack.0.now)
+) -> Result<Vec<u8>, (&'a str, FileUnread)>
+    ensures held { IfOk result (λ bytes. HoldsFile (H.opens host.now) H.File.remaining
+        (file_called words.now.call) bytes.items) }
+    ensures fault { IfErr result (λ lack. (file_called words.now.call ≡ Some lack.0.now)
         × ExplainsUnread (H.opens host.now) (H.refuses host.now) H.File.remaining H.File.failures
         lack.0.now lack.1) }
 {
-    match words.flavors() {
-        Some(path) => read_flavors(alloc, host, path).map_err(|unread| (path, unread)),
+    match words.file() {
+        Some(path) => read_file(alloc, host, path).map_err(|unread| (path, unread)),
         None => Ok(Vec::new(alloc)),
     }
 }
@@ -224,24 +252,24 @@ fn detail_of<'a>(words: &Words, paths: &'a Paths<'a>) -> Option<&'a Paths<'a>>
     if words.detail() { Some(paths) } else { None }
 }
 
-// Does what accepted words ask for, over the feeds of their tables and the text of their table of flavors.
+// Does what accepted words ask for, over the feeds of their tables and the bytes of the file that is read beside them.
 fn answer_opened<F: Feed, Q: Feed + Drop, W: Sink + Drop, E: Sink>(
     alloc: Global,
     words: &Words,
-    flavors: &[u8],
+    file: &[u8],
     inputs: &mut Inputs<F>,
     questions: Q,
     out: W,
     err: &mut E,
 ) -> (u8, W)
     ensures { RanCall F.remaining F.failures Q.remaining Q.failures
-        (task_in words.now flavors.now (detail_in words.now)) words.now inputs.old inputs.new
+        (task_in words.now file.now (detail_in words.now)) words.now inputs.old inputs.new
         questions (seen W.taken W.failures E.taken E.failures out result.1 err.old err.new)
         result.0 }
 {
     let paths = words.paths();
     let detail = detail_of(words, &paths);
-    match words.job(flavors, detail) {
+    match words.job(file, detail) {
         Some(job) => ran_job(alloc, &job, inputs, out, err),
         None => held(
             alloc,
@@ -276,11 +304,14 @@ fn answer_line<H: Host + AllocGlobal, Q: Feed + Drop, W: Sink + Drop, E: Sink>(
         Ok(inputs) => inputs,
         Err(unopened) => return (tell_unopened(alloc, detail, &unopened, err), out),
     };
-    let flavors = match flavors_of(alloc, host, words) {
-        Ok(flavors) => flavors,
-        Err((path, unread)) => return (tell_unread(alloc, detail, path, unread, err), out),
+    let file = match file_of(alloc, host, words) {
+        Ok(file) => file,
+        Err((path, unread)) => {
+            let answer = words.has_answer();
+            return (tell_unread(alloc, answer, detail, path, unread, err), out);
+        }
     };
-    answer_opened(alloc, words, &flavors, &mut inputs, questions, out, err)
+    answer_opened(alloc, words, &file, &mut inputs, questions, out, err)
 }
 
 // Does what words ask for.

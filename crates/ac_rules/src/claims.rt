@@ -1,16 +1,16 @@
 //! Claims: a candidate takes what its slots ask, and gives it back.
 
-ghost use Rattle.std.specs.Prelude.{◌≡◌, ◌≢◌, ◌<◌, ◌∷◌, [], true, false, length, map};
+ghost use Rattle.std.specs.Prelude.{◌≡◌, ◌≢◌, ◌<◌, ◌∷◌, [], Some, true, false, length, map};
 ghost use Rattle.std.specs.List.{All};
 ghost use Rattle.ac_cloud.specs.Cloud.CloudWorld.{providers_of, root_lists_of, world_of};
 ghost use Rattle.ac_query.specs.Asked.{slots_of};
 ghost use Rattle.ac_query.specs.Shown.Groups.{need_entry};
 ghost use Rattle.ac_query.specs.Shown.Queries.{asked_of};
-ghost use Rattle.ac_rules.specs.Claims.{claimed, released, is_in_use};
+ghost use Rattle.ac_rules.specs.Claims.{claimed, released, is_in_use, move_verdict, moved};
 ghost use Rattle.ac_rules.specs.Judge.{judge};
 ghost use Rattle.ac_rules.specs.Placed.{assigned};
 ghost use Rattle.ac_rules.specs.Together.{sum_on};
-ghost use Rattle.ac_rules.specs.Shown.Changes.{used_after, changed, asked_of_one};
+ghost use Rattle.ac_rules.specs.Shown.Changes.{used_after, changed, asked_of_one, is_counted_in_use};
 ghost use Rattle.ac_rules.specs.declared.verdict.Verdict.TheVariants.{Candidate};
 
 use crate::assignment::Assignment;
@@ -28,6 +28,8 @@ pub(crate) enum Change {
     Claim,
     /// It is given back.
     Release,
+    /// What was given back is taken again.
+    Restore,
 }
 
 impl Change {
@@ -39,6 +41,7 @@ impl Change {
         match self {
             Change::Claim => used + amount.min(inventory.capacity().saturating_sub(used)),
             Change::Release => used.saturating_sub(amount),
+            Change::Restore => used + amount.min(u64::MAX - used),
         }
     }
 
@@ -112,6 +115,8 @@ pub fn release(cloud: &mut Cloud, query: &Query, list: &[u32]) -> bool
     requires providers { All (λ p. p < length (providers_of cloud.old)) list.now }
     ensures in_use { result
         ≡ is_in_use (providers_of cloud.old) (assigned (asked_of query.now) list.now) }
+    ensures counted { result
+        ≡ is_counted_in_use (providers_of cloud.old) (assigned (asked_of query.now) list.now) }
     ensures released { result ≡ true → providers_of cloud.new
         ≡ released (providers_of cloud.old) (assigned (asked_of query.now) list.now) }
     ensures otherwise { result ≡ false → cloud.new ≡ cloud.old }
@@ -123,4 +128,29 @@ pub fn release(cloud: &mut Cloud, query: &Query, list: &[u32]) -> bool
         Change::Release.apply_all(cloud, query, list);
     }
     in_use
+}
+
+/// Gives back what a list of providers was asked for, and takes what another list is asked for instead, at once: where so much is used of the first, and
+/// the other is a candidate then. Else nothing changes, and it says which rule is broken; nothing of rules where not so much is used. It takes no memory.
+pub fn relocate(cloud: &mut Cloud, query: &Query, from: &[u32], to: &[u32]) -> Option<Verdict>
+    requires from { length from.now ≡ length (slots_of (asked_of query.now)) }
+    requires to { length to.now ≡ length (slots_of (asked_of query.now)) }
+    requires providers { All (λ p. p < length (providers_of cloud.old)) from.now }
+    requires others { All (λ p. p < length (providers_of cloud.old)) to.now }
+    ensures verdict { result
+        ≡ move_verdict (providers_of cloud.old) (asked_of query.now) from.now to.now }
+    ensures moved { result ≡ Some Candidate → providers_of cloud.new
+        ≡ moved (providers_of cloud.old) (asked_of query.now) from.now to.now }
+    ensures otherwise { result ≢ Some Candidate → providers_of cloud.new ≡ providers_of cloud.old }
+    ensures sizes { (world_of cloud.new).sizes ≡ (world_of cloud.old).sizes }
+    ensures root_lists { root_lists_of cloud.new ≡ root_lists_of cloud.old }
+{
+    if !release(cloud, query, from) {
+        return None;
+    }
+    let verdict = claim(cloud, query, to);
+    if let Verdict::Broken(_) = verdict {
+        Change::Restore.apply_all(cloud, query, from);
+    }
+    Some(verdict)
 }

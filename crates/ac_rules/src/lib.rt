@@ -17,7 +17,7 @@ pub mod source;
 pub mod verdict;
 
 pub use assignment::{Assignment, Placed};
-pub use claims::{claim, release};
+pub use claims::{claim, release, relocate};
 pub use classes::{all_classes, number_of};
 pub use judge::verify;
 pub use located::InCloud;

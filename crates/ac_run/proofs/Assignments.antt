@@ -25,7 +25,7 @@ each_assignment all asked ids =
     kept (IsAssignment all asked) (λ t. is_after all ids t) (filter (λ t. is_candidate all asked t) lists)
     (kept (IsAssignment all asked) (λ t. is_candidate all asked t) lists (each_all_lists (length all) (length (slots_of asked))))
 
-assignments : (all : List Provider) (asked : Asked) (ids : Option (List ℕ)) → All (IsAssignment all asked) (rest all asked ids)
+pub assignments : (all : List Provider) (asked : Asked) (ids : Option (List ℕ)) → All (IsAssignment all asked) (rest all asked ids)
 assignments all asked ids = All-from_recursion (IsAssignment all asked) _ (each_assignment all asked ids)
 
 -- those at a root, too

@@ -16,10 +16,12 @@ use Rattle.ac_run.specs.Details.{asked_remedy, asked_text, asks_text, behind, te
 use Rattle.ac_run.specs.Feeds.Draining.{ExplainsReading}
 use Rattle.ac_run.specs.Feeds.{Bytes, TellBytes, too_large}
 use Rattle.ac_run.specs.Wanted.Given.{tables_in, token_refusal}
-use Rattle.ac_run.specs.Lines.{host_line, memory_line}
+use Rattle.ac_run.specs.Comparing.{answer_refused}
+use Rattle.ac_run.specs.Lines.{answer_line, host_line, memory_line}
 use Rattle.ac_run.specs.Refusals.{IsRefusalWith, line_of, line_of_asked, line_of_tables, line_told, status_of, status_of_asked, status_of_tables, status_told}
 use Rattle.ac_run.specs.Run.{Explains, ExplainsTables, IsStated, IsWritten}
-use Rattle.ac_run.specs.Tasks.{Command, Paths, Task, check, candidates, tokens, list, fill, verify, explain, hosts, why, capacity, audit, host_in, token_in}
+use Rattle.ac_run.specs.Tasks.{Command, Paths, Task, check, candidates, tokens, list, fill, verify, explain, hosts, why, capacity, compare, audit, host_in, token_in}
+use Rattle.ac_run.specs.declared.refusal.AnswerRefusal.{AnswerRefusal}
 use Rattle.ac_run.specs.Wanted.{AsksOne, ExplainsWanted}
 use Rattle.ac_run.specs.declared.refusal.AskRefusal.{AskRefusal}
 use Rattle.ac_run.specs.declared.refusal.AskRefusal.TheVariants as ask
@@ -159,6 +161,7 @@ asks_query (verify token) detail version query world other = refl
 asks_query explain detail version query world other = refl
 asks_query (hosts sum within) detail version query world other = refl
 asks_query (why host) detail version query world other = refl
+asks_query (compare answer) detail version query world other = refl
 
 -- a host that names no provider is told behind the query and the token
 pub host_refused : (command : Command) (detail : Bool) (world : World) (asked : Asked) (host : List ℕ) (f : HostFault) → host_in command ≡ Some host
@@ -174,7 +177,13 @@ host_refused (verify token) detail world asked host f is fine unknown = absurd (
 host_refused explain detail world asked host f is fine unknown = absurd (cc)
 host_refused (hosts sum within) detail world asked host f is fine unknown = absurd (cc)
 host_refused (capacity flavors metrics) detail world asked host f is fine unknown = absurd (cc)
+host_refused (compare answer) detail world asked host f is fine unknown = absurd (cc)
 host_refused (audit _) detail world asked host f is fine unknown = absurd (cc)
+
+-- and so is an answer that can't be compared
+pub answer_refused_so : (answer : List ℕ) (detail : Bool) (world : World) (asked : Asked) (f : AnswerRefusal) → answer_refused answer ≡ Some f
+    → past_token (said_by (compare answer) detail world) None asked ≡ refused (answer_line f) 5
+answer_refused_so answer detail world asked f is = rw is refl
 
 -- and what is to be done says so
 asks_text_of : (command : Command) (all : List Provider) (task : Task) → AsksOne command → text_asked command all task ≡ asks_text all task
@@ -189,6 +198,7 @@ asks_text_of (verify token) all task one = refl
 asks_text_of explain all task one = refl
 asks_text_of (hosts sum within) all task one = refl
 asks_text_of (why host) all task one = refl
+asks_text_of (compare answer) all task one = refl
 
 module _ (task : Task) (world : World) where
   refused_in : (line text : List ℕ) (status : ℕ) → 3 ≤ status → answer_in task world ≡ refused line status → asked_text world.providers task ≡ text
@@ -214,6 +224,10 @@ module _ (task : Task) (world : World) where
       (asks_text_of task.command world.providers task h.0 ∙ rw (h.1, h.2.2, h.2.1, h.2.3) refl)
   asked_said (ask.Flavors f) h some =
       refused_in (line_of_asked (ask.Flavors f)) (asked_remedy task (ask.Flavors f)) 4 (omega arith) (rw (h.2, h.3) refl) (rw (h.2, h.3) refl)
+  asked_said (ask.Answer f) h some =
+      refused_in (line_of_asked (ask.Answer f)) (asked_remedy task (ask.Answer f)) 5 (omega arith)
+      (asks_query task.command _ task.version task.query world h.0 ∙ rw (h.1, h.2.1, h.2.2) refl)
+      (asks_text_of task.command world.providers task h.0 ∙ rw (h.1, h.2.1, h.2.2) refl)
 
   module _ {R : Type 0} (remaining : R → Option (List ℕ)) (failures : R → ℕ) (from to : FiveTables R) (stated : (b : Bytes) → TellBytes remaining from b → IsStated b world) where
     abbrev IsWhyAsked : List ℕ → ℕ → Type 0
@@ -234,6 +248,7 @@ module _ (task : Task) (world : World) where
     asked (ask.Token f) h = this_very (ask.Token f) h (λ e. cc) (omega arith) (omega arith)
     asked (ask.Host f) h = this_very (ask.Host f) h (λ e. cc) (omega arith) (omega arith)
     asked (ask.Flavors f) h = this_very (ask.Flavors f) h (λ e. cc) (omega arith) (omega arith)
+    asked (ask.Answer f) h = this_very (ask.Answer f) h (λ e. cc) (omega arith) (omega arith)
 
     pub asked_told : {F : Type 0} (refusal : AskRefusal) (text : Result (Vec ℕ) F) (told : Refused) → ExplainsWanted task world refusal
         → IfOk text (λ t. t.items ≡ behind task.detail (λ _. asked_remedy task refusal)) → IsRefusalWith (whole.Asked refusal) text told

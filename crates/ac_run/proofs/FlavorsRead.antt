@@ -47,6 +47,7 @@ first_here reason other ask.NoMemory h = tt
 first_here reason other (ask.Query f) h = absurd h
 first_here reason other (ask.Token f) h = absurd h
 first_here reason other (ask.Host f) h = absurd h
+first_here reason other (ask.Answer f) h = absurd h
 
 -- what is pushed comes before the rest
 pub seam : {X Y : Type 0} (f : X → Y) (xs : List X) (x : X) (rest : List Y) → map f (xs ++ x ∷ []) ++ rest ≡ map f xs ++ f x ∷ rest

@@ -48,3 +48,4 @@ page_at all asked after at ask.NoMemory fine h = tt
 page_at all asked after at (ask.Query f) fine h = h.2
 page_at all asked after at (ask.Token f) fine h = absurd h.2
 page_at all asked after at (ask.Flavors f) fine h = h.2
+page_at all asked after at (ask.Answer f) fine h = h.2

@@ -1,5 +1,5 @@
 -- Where a query fits at no root there is no candidate.
-use Rattle.std.proofs.Common.{◌≡◌, ◌∙◌, ℕ, zero, suc, Bool, true, false, List, [], ◌∷◌, length, map, not, arith, ap, sym, refl, inl, inr}
+use Rattle.std.proofs.Common.{◌≡◌, ◌∙◌, ℕ, zero, suc, Bool, false, List, [], ◌∷◌, length, map, not, arith, ap, sym, refl, inl, inr}
 use Rattle.std.specs.List.{filter, list_any, range_with_len}
 use Rattle.std.proofs.lemmas.Bool.{cases_Bool}
 use Rattle.ac_cloud.specs.World.{Provider}
@@ -10,7 +10,7 @@ use Rattle.ac_prune.specs.Fitting.{fits_at}
 use Rattle.ac_query.specs.Asked.{Asked}
 use Rattle.ac_rules.specs.Pages.{candidates}
 use Rattle.ac_rules.specs.Together.{is_empty}
-use Rattle.ac_run.specs.Capacity.{hosts_fitting, placed_first}
+use Rattle.ac_run.specs.Capacity.{placed_first}
 use Rattle.ac_run.specs.Laws.{HostsAreThere}
 use Rattle.ac_run.specs.Outputs.{counted}
 

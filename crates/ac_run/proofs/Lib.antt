@@ -9,3 +9,4 @@ pub mod FaultsTold
 pub mod StatedRequests
 pub mod HostsThere
 pub mod FlavorsRead
+pub mod Comparing

@@ -1,6 +1,6 @@
 -- What a run answers: its output, its line on the error sink, and its status.
 use Rattle.std.specs.Prelude.{ℕ, Bool, true, false, List, [], ◌++◌, codes, is_some, map, nat_lt, Option, Some, None, Result, Ok, Err, if◌then◌else◌}
-use Rattle.std.specs.Option.{option_and_then}
+use Rattle.std.specs.Option.{option_and_then, unwrap_or}
 use Rattle.ac_base.specs.Texts.{id_value}
 use Rattle.ac_tables.specs.Tables.{Tables, tables_fault, world_stated}
 use Rattle.ac_cloud.specs.World.{World, Provider}
@@ -33,9 +33,11 @@ use Rattle.ac_report.specs.Findings.HostRows.{hosts_status, hosts_text}
 use Rattle.ac_report.specs.Findings.HostSums.{sums_text}
 use Rattle.ac_report.specs.Findings.WhyRows.{root_place, why_status, why_text}
 use Rattle.ac_run.specs.Capacity.{capacity_status, room_of, rooms_text}
+use Rattle.ac_run.specs.Compared.{answer_read, compared_status, compared_text}
+use Rattle.ac_run.specs.Comparing.{answer_refused}
 use Rattle.ac_run.specs.Feeds.{Bytes, too_large}
 use Rattle.ac_run.specs.Flavors.{Plan, flavors_refused, plans_of}
-use Rattle.ac_run.specs.Lines.{too_large_line, record_line, query_line, token_line, host_line, memory_line}
+use Rattle.ac_run.specs.Lines.{answer_line, too_large_line, record_line, query_line, token_line, host_line, memory_line}
 use Rattle.ac_run.specs.Details.{asked_text, behind, fault_text, size_text}
 use Rattle.ac_run.specs.Wanted.Given.{tables_in, token_refusal}
 use Rattle.ac_run.specs.Tasks.{Command, Paths, Task, token_in}
@@ -150,6 +152,14 @@ abbrev pub capacity_said : Version → List ℕ → Bool → List Provider → O
 capacity_said version flavors metrics all =
     told (flavors_refused version flavors) (λ why. refused why.line 4) (capacities metrics all (plans_of version flavors))
 
+-- what an answer of the service and the candidates have that the other hasn't
+abbrev pub comparison : List Provider → Asked → List (List ℕ) → Outcome
+comparison all asked texts = written (compared_text all asked texts) (compared_status all asked texts)
+
+-- the same of its bytes, unless they are refused
+abbrev pub compare_said : List ℕ → List Provider → Says
+compare_said answer all asked ids = told (answer_refused answer) (λ why. refused (answer_line why) 5) (comparison all asked (unwrap_or (answer_read answer) []))
+
 -- what is amiss in a cloud, with an aggregate as the zone of hosts, or with none
 abbrev pub amiss : World → Option ℕ → Outcome
 amiss world zone = written (audit_text (findings world zone)) (audit_status (findings world zone))
@@ -179,6 +189,7 @@ said_by command.explain detail world = explanation world.providers
 said_by (command.hosts sum within) detail world = host_rows world.providers sum within
 said_by (command.why host) detail world = why_rows world.providers host
 said_by (command.capacity flavors metrics) detail world = λ asked ids. capacities metrics world.providers []
+said_by (command.compare answer) detail world = compare_said answer world.providers
 said_by (command.audit zone) detail world = λ asked ids. amiss world (zone_named zone)
 
 -- the answer of a command; `check` and `audit` ask for no query, and `capacity` for those of its flavors

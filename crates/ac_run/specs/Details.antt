@@ -1,5 +1,5 @@
 -- What stands behind the line of a refusal where more is told: what is to be done.
-use Rattle.std.specs.Prelude.{ℕ, List, [], Option, Some, None, Result, Ok, Err}
+use Rattle.std.specs.Prelude.{ℕ, List, [], codes, Option, Some, None, Result, Ok, Err}
 use Rattle.std.specs.Option.{unwrap_or}
 use Rattle.ac_cloud.specs.Cloud.Hosts.{host_of}
 use Rattle.ac_cloud.specs.World.{Provider}
@@ -12,9 +12,12 @@ use Rattle.ac_query.specs.Shown.Faults.{fault_shown}
 use Rattle.ac_query.specs.declared.version.Version.{Version}
 use Rattle.ac_remedies.specs.Queries.{host_remedy, query_remedy, token_remedy}
 use Rattle.ac_remedies.specs.Tables.{record_remedy, size_remedy, unread_remedy}
+use Rattle.ac_run.specs.Comparing.{answer_refused}
 use Rattle.ac_run.specs.Wanted.Given.{token_refusal}
 use Rattle.ac_run.specs.Flavors.{flavors_refused, why_shown}
-use Rattle.ac_run.specs.Tasks.{Command, Paths, Task, capacity, host_in, token_in}
+use Rattle.ac_run.specs.Tasks.{Command, Paths, Task, capacity, compare, host_in, token_in}
+use Rattle.ac_run.specs.declared.refusal.AnswerRefusal.{AnswerRefusal}
+use Rattle.ac_run.specs.declared.refusal.AnswerRefusal.TheVariants as answer
 use Rattle.ac_run.specs.declared.refusal.AskRefusal.{AskRefusal}
 use Rattle.ac_run.specs.declared.refusal.AskRefusal.TheVariants as ask
 use Rattle.ac_run.specs.declared.refusal.TablesRefusal.{TablesRefusal}
@@ -58,14 +61,23 @@ abbrev pub host_said : List ℕ → Result ℕ HostFault → List ℕ
 host_said host (Ok place) = []
 host_said host (Err f) = host_remedy host f
 
--- of a host that names no provider
-abbrev pub host_text : List Provider → Command → List ℕ
-host_text all command = text_of (host_in command) (λ host. host_said host (host_of all host)) []
+-- of an answer of the service that is no answer of it
+unfoldable pub answer_remedy : AnswerRefusal → List ℕ
+answer_remedy answer.BadAnswer = codes "It is to be the body that the service answers GET /allocation_candidates with: JSON, with allocation_requests of 1.34 or later.\n"
+answer_remedy _ = []
 
--- of a token that is refused; else of the host
+abbrev pub answer_text : Command → List ℕ
+answer_text (compare answer) = text_of (answer_refused answer) answer_remedy []
+answer_text _ = []
+
+-- of a host that names no provider, or of an answer
+abbrev pub rest_text : List Provider → Command → List ℕ
+rest_text all command = text_of (host_in command) (λ host. host_said host (host_of all host)) (answer_text command)
+
+-- of a token that is refused; else of the host or the answer
 abbrev pub token_text : List Provider → Command → Asked → List ℕ
 token_text all command asked =
-    text_of (token_refusal asked (token_in command)) (token_remedy (unwrap_or (token_in command) []) asked) (host_text all command)
+    text_of (token_refusal asked (token_in command)) (token_remedy (unwrap_or (token_in command) []) asked) (rest_text all command)
 
 -- of a table of flavors that is refused
 abbrev pub flavors_text : Version → List ℕ → List ℕ
@@ -104,4 +116,5 @@ asked_remedy task (ask.Query f) = query_remedy task.version task.query (fault_sh
 asked_remedy task (ask.Token f) = token_remedy (unwrap_or (token_in task.command) []) (asked_by task.version (pairs_of task.query)) f
 asked_remedy task (ask.Host f) = host_remedy (unwrap_or (host_in task.command) []) f
 asked_remedy task (ask.Flavors f) = (why_shown f).detail
+asked_remedy task (ask.Answer f) = answer_remedy f
 asked_remedy task ask.NoMemory = []

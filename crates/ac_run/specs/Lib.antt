@@ -2,6 +2,8 @@ pub mod Lines
 pub mod Refusals
 pub mod Feeds
 pub mod Flavors
+pub mod Compared
+pub mod Comparing
 pub mod Tasks
 pub mod Capacity
 pub mod Rooms

@@ -7,6 +7,8 @@ use Rattle.ac_cloud.specs.declared.cloud.provider_name.HostFault.TheVariants as 
 use Rattle.ac_query.specs.Faults.{Fault, too_long, unknown_parameter, repeated, bad_value, conflict, no_resources, group_without_resources, unknown_suffix, policy_missing, too_many_slots}
 use Rattle.ac_query.specs.declared.token.TokenFault.{TokenFault}
 use Rattle.ac_query.specs.declared.token.TokenFault.TheVariants as token
+use Rattle.ac_run.specs.declared.refusal.AnswerRefusal.{AnswerRefusal}
+use Rattle.ac_run.specs.declared.refusal.AnswerRefusal.TheVariants as answer
 use Rattle.ac_tables.specs.Tables.Names.{kind_name, table_name}
 use Rattle.ac_tables.specs.declared.fault.Table.{Table}
 use Rattle.ac_tables.specs.declared.fault.TableKind.{TableKind}
@@ -61,3 +63,9 @@ token_line token.NoMemory = memory_line
 unfoldable pub host_line : HostFault → List ℕ
 host_line host.Unknown = codes "host: Unknown\n"
 host_line host.Ambiguous = codes "host: Ambiguous\n"
+
+-- why an answer of the service can't be compared
+unfoldable pub answer_line : AnswerRefusal → List ℕ
+answer_line answer.Unreadable = codes "answer: Unreadable\n"
+answer_line answer.TooLarge = codes "answer: TooLarge\n"
+answer_line answer.BadAnswer = codes "answer: BadAnswer\n"

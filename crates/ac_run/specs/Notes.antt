@@ -19,6 +19,7 @@ abbrev pub is_noted : Command → Bool
 is_noted (command.tokens after at) = true
 is_noted (command.fill sum) = true
 is_noted (command.hosts sum within) = true
+is_noted (command.compare answer) = true
 is_noted _ = false
 
 -- where the service may answer a query otherwise, as far as a candidate shows it
@@ -38,4 +39,5 @@ abbrev pub note_to : Wanted → World → List ℕ
 note_to (wanted.Lines page) world = differs_lines world.providers (asked_of page.query) true
 note_to (wanted.Fill query sum) world = differs_lines world.providers (asked_of query) true
 note_to (wanted.Hosts query sum within) world = differs_lines world.providers (asked_of query) true
+note_to (wanted.Comparison query answer) world = differs_lines world.providers (asked_of query) true
 note_to _ world = []

@@ -1,10 +1,9 @@
 -- The line and the status of each refusal, and the fault that it tells.
-use Rattle.std.specs.Prelude.{◌≡◌, ℕ, List, ◌++◌, Option, Some, None, Result, Ok, Err}
+use Rattle.std.specs.Prelude.{◌≡◌, ℕ, List, ◌++◌, Result, Ok, Err}
 use Rattle.std.specs.Global.{Vec}
-use Rattle.ac_query.specs.Faults.{Fault}
 use Rattle.ac_query.specs.Shown.Faults.{fault_shown}
 use Rattle.ac_run.specs.Flavors.{query_told, why_shown}
-use Rattle.ac_run.specs.Lines.{unreadable_line, too_large_line, record_line, query_line, token_line, host_line, memory_line, output_line, tries_line}
+use Rattle.ac_run.specs.Lines.{answer_line, unreadable_line, too_large_line, record_line, token_line, host_line, memory_line, output_line, tries_line}
 use Rattle.ac_run.specs.declared.refusal.AskRefusal.{AskRefusal}
 use Rattle.ac_run.specs.declared.refusal.AskRefusal.TheVariants as ask
 use Rattle.ac_run.specs.declared.refusal.Refusal.{Refusal}
@@ -32,6 +31,7 @@ line_of_asked (ask.Query fault) = query_told (fault_shown fault)
 line_of_asked (ask.Token fault) = token_line fault
 line_of_asked (ask.Host fault) = host_line fault
 line_of_asked (ask.Flavors f) = (why_shown f).line
+line_of_asked (ask.Answer f) = answer_line f
 line_of_asked ask.NoMemory = memory_line
 
 abbrev pub status_of_asked : AskRefusal → ℕ
@@ -39,6 +39,7 @@ status_of_asked (ask.Query fault) = 4
 status_of_asked (ask.Token fault) = 5
 status_of_asked (ask.Host fault) = 5
 status_of_asked (ask.Flavors f) = 4
+status_of_asked (ask.Answer f) = 5
 status_of_asked ask.NoMemory = 7
 
 -- ---- of all

@@ -36,6 +36,7 @@ SearchMayStop command.explain version tries all asked = ExplanationMayStop tries
 SearchMayStop (command.hosts sum within) version tries all asked = MayStop tries all asked None
 SearchMayStop (command.why host) version tries all asked = MayStop tries all asked None
 SearchMayStop (command.capacity flavors metrics) version tries all asked = OneMayStop tries all (plans_of version flavors)
+SearchMayStop (command.compare answer) version tries all asked = MayStop tries all asked None
 SearchMayStop (command.audit _) version tries all asked = ⊥
 
 -- a search of a task may stop, over the bytes of five tables
@@ -54,4 +55,5 @@ AnswerMayStop (wanted.Explanation question) tries all = ExplanationMayStop tries
 AnswerMayStop (wanted.Hosts query sum within) tries all = MayStop tries all (asked_of query) None
 AnswerMayStop (wanted.Why query host) tries all = MayStop tries all (asked_of query) None
 AnswerMayStop (wanted.Capacity plans metrics) tries all = OneMayStop tries all (map plan_shown plans.items)
+AnswerMayStop (wanted.Comparison query answer) tries all = MayStop tries all (asked_of query) None
 AnswerMayStop (wanted.Amiss _) tries all = ⊥

@@ -16,11 +16,14 @@ use Rattle.ac_query.specs.Shown.Faults.{fault_shown}
 use Rattle.ac_query.specs.Shown.Queries.{asked_of}
 use Rattle.ac_query.specs.Tokens.{ids_of}
 use Rattle.ac_query.specs.declared.token.TokenFault.{TokenFault}
-use Rattle.ac_run.specs.Answer.{Outcome, amiss, capacities, explanation, fills, host_rows, page_body, page_lines, page_rows, verdict_line, why_not, written}
+use Rattle.ac_run.specs.Answer.{Outcome, amiss, capacities, comparison, explanation, fills, host_rows, page_body, page_lines, page_rows, verdict_line, why_not, written}
+use Rattle.ac_run.specs.Compared.Answers.{texts_in}
+use Rattle.ac_run.specs.Comparing.{answer_refused}
 use Rattle.ac_run.specs.Wanted.Given.{token_refusal}
 use Rattle.ac_run.specs.Outputs.{counts}
 use Rattle.ac_run.specs.Flavors.{Why, flavors_refused, plan_shown, why_shown}
-use Rattle.ac_run.specs.Tasks.{Command, Task, audit, capacity, check, host_in, token_in}
+use Rattle.ac_run.specs.Tasks.{Command, Task, audit, capacity, check, compare, host_in, token_in}
+use Rattle.ac_run.specs.declared.refusal.AnswerRefusal.{AnswerRefusal}
 use Rattle.ac_run.specs.declared.refusal.AskRefusal.{AskRefusal}
 use Rattle.ac_run.specs.declared.refusal.AskRefusal.TheVariants as ask
 use Rattle.ac_run.specs.declared.wanted.Wanted.{Wanted}
@@ -38,6 +41,7 @@ answer_to (wanted.Explanation question) world = explanation world.providers (ask
 answer_to (wanted.Hosts query sum within) world = host_rows world.providers sum within (asked_of query) None
 answer_to (wanted.Why query host) world = why_not world.providers (asked_of query) host
 answer_to (wanted.Capacity plans metrics) world = capacities metrics world.providers (map plan_shown plans.items)
+answer_to (wanted.Comparison query answer) world = comparison world.providers (asked_of query) (texts_in answer)
 answer_to (wanted.Amiss zone) world = amiss world zone
 
 -- The token on which a verdict is wanted has an id for each slot of the query; a query that is placed again and again asks for an amount of a class; and
@@ -76,18 +80,25 @@ ExplainsFlavors reason (ask.Flavors f) = reason ≡ Some (why_shown f)
 ExplainsFlavors reason ask.NoMemory = ⊤
 ExplainsFlavors reason _ = ⊥
 
+-- what is wrong with an answer of the service, or want of memory
+abbrev pub ExplainsAnswer : Option AnswerRefusal → AskRefusal → Type 0
+ExplainsAnswer reason (ask.Answer f) = reason ≡ Some f
+ExplainsAnswer reason ask.NoMemory = ⊤
+ExplainsAnswer reason _ = ⊥
+
 -- why a host names no provider
 abbrev pub ExplainsHost : Result ℕ HostFault → AskRefusal → Type 0
 ExplainsHost found (ask.Host f) = found ≡ Err f
 ExplainsHost found _ = ⊥
 
--- what is wrong with the token of a command, and else with its host; or want of memory
+-- what is wrong with the token of a command, and else with its host, or with the answer that it compares; or want of memory
 abbrev pub ExplainsRest : List Provider → Command → Asked → AskRefusal → Type 0
 ExplainsRest all command asked (ask.Query f) = ⊥
 ExplainsRest all command asked (ask.Flavors f) = ⊥
 ExplainsRest all command asked (ask.Token f) = token_refusal asked (token_in command) ≡ Some f
 ExplainsRest all command asked (ask.Host f) =
     (host : List ℕ) × (host_in command ≡ Some host) × (token_refusal asked (token_in command) ≡ None) × (host_of all host ≡ Err f)
+ExplainsRest all command asked (ask.Answer f) = (answer : List ℕ) × (command ≡ compare answer) × (answer_refused answer ≡ Some f)
 ExplainsRest all command asked ask.NoMemory = ⊤
 
 -- why the host at whose root candidates are to stand names no provider
@@ -108,7 +119,7 @@ AsksOne (capacity flavors metrics) = ⊥
 AsksOne (audit _) = ⊥
 AsksOne _ = ⊤
 
--- What is wrong with the query of a task, and else with its token or its host, or with its flavors; or want of memory. One that asks for no query is not refused.
+-- What is wrong with the query of a task, and else with its token, its host or its answer, or with its flavors; or want of memory. One that asks for no query is not refused.
 abbrev pub ExplainsWanted : Task → World → AskRefusal → Type 0
 ExplainsWanted task world ask.NoMemory = ⊤
 ExplainsWanted task world (ask.Query f) = AsksOne task.command × ExplainsQuery (query_fault task.version task.query) (ask.Query f)

@@ -9,7 +9,8 @@ ghost use Rattle.ac_query.specs.Shown.Queries.{asked_of};
 ghost use Rattle.ac_query.specs.Tokens.{ids_of};
 ghost use Rattle.ac_prune.specs.Fitting.{fitting};
 ghost use Rattle.ac_find.specs.Lacking.{lacks_of};
-ghost use Rattle.ac_run.specs.Answer.{amiss, explanation, host_rows, hosts_told, page_body, page_lines, page_rows, verdict_line, verdict_on, why_not, written};
+ghost use Rattle.ac_run.specs.Answer.{amiss, comparison, explanation, host_rows, hosts_told, page_body, page_lines, page_rows, verdict_line, verdict_on, why_not, written};
+ghost use Rattle.ac_run.specs.Compared.Answers.{texts_in};
 ghost use Rattle.ac_run.specs.Wanted.{IsSound, answer_to};
 ghost use Rattle.ac_run.specs.Outputs.{counts, detailed_text, verdict_status, verdict_text};
 ghost use Rattle.ac_rules.specs.declared.verdict.Verdict.TheVariants as Verdict;
@@ -20,8 +21,9 @@ ghost use Rattle.ac_run.specs.Stops.{AnswerMayStop};
 ghost use Rattle.ac_report.specs.Findings.Explanation.Candidates.{ExplanationMayStop};
 ghost use Rattle.ac_search.specs.Shown.Walk.{MayStop};
 
-use crate::capacity::placements::write_fill;
+use crate::capacity::placements::{walk_all, write_fill};
 use crate::capacity::write_capacity;
+use crate::outputs::compared::{ServiceAnswer, write_compared};
 use crate::outputs::{detailed_line, push_counts, push_text, push_verdict, verdict_status};
 use crate::wanted::{Page, Wanted};
 use ac_base::{Id, NoMemory, Sink};
@@ -324,6 +326,24 @@ fn write_why<W: Sink>(
     push_text(out, &text, status)
 }
 
+// What an answer of the service and the candidates have that the other hasn't.
+#[tactic(auto, using(crate::proofs::Delivering::refused))]
+fn write_comparison<W: Sink>(
+    alloc: Global,
+    cloud: &Cloud,
+    query: &Query,
+    answer: &ServiceAnswer,
+    tries: Option<u64>,
+    out: &mut W,
+) -> Result<u8, PageFault>
+    ensures { Delivers (comparison (providers_of cloud.now) (asked_of query.now)
+        (texts_in answer.now)) (MayStop tries (providers_of cloud.now) (asked_of query.now) None)
+        result (W.taken out.old) (W.taken out.new) (W.failures out.old) (W.failures out.new) }
+{
+    let mut source = walk_all(alloc, cloud, query, tries)?;
+    write_compared(alloc, cloud, query, answer, &mut source, out)
+}
+
 // What is amiss in the cloud.
 #[tactic(auto, using(crate::proofs::Delivering::refused))]
 fn write_audit<W: Sink>(
@@ -370,6 +390,9 @@ pub fn write_answer<W: Sink>(
         Wanted::Why(query, host) => write_why(alloc, cloud, query, *host, tries, out),
         Wanted::Capacity(plans, metrics) => {
             write_capacity(alloc, cloud, plans, *metrics, tries, out)
+        }
+        Wanted::Comparison(query, answer) => {
+            write_comparison(alloc, cloud, query, answer, tries, out)
         }
         Wanted::Amiss(zone) => write_audit(alloc, cloud, *zone, out),
     }

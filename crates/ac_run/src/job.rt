@@ -52,6 +52,10 @@ pub enum Command<'a> {
         flavors: &'a [u8],
         metrics: bool,
     },
+    /// Writes how an answer of the service, as bytes of JSON, differs from the candidates.
+    Compare {
+        answer: &'a [u8],
+    },
     /// Writes what is amiss in the cloud, with an aggregate as the zone of hosts, which is named by its UUID, or with none.
     Audit {
         zone: Option<&'a str>,

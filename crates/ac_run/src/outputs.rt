@@ -8,6 +8,8 @@ ghost use Rattle.ac_base.specs.Writing.{Pushes};
 ghost use Rattle.ac_run.specs.Answer.{written};
 ghost use Rattle.ac_run.specs.Run.{Delivers};
 
+pub(crate) mod compared;
+
 use ac_base::{Digits, NoMemory, Sink, WriteFailed, push_all, push_pieces};
 use ac_fill::{Bound, Short};
 use ac_report::PageFault;

@@ -37,6 +37,8 @@ pub enum AskRefusal {
     Host(HostFault),
     /// What is wrong with the table of flavors.
     Flavors(FlavorsRefusal),
+    /// Why an answer of the service can't be compared.
+    Answer(AnswerRefusal),
     /// A growth was refused.
     NoMemory,
 }
@@ -74,6 +76,17 @@ pub enum FlavorsRefusal {
     NotText { row: u32 },
     /// What is wrong with the query of a record.
     Query { row: u32, fault: QueryFault },
+}
+
+/// Why an answer of the service can't be compared.
+#[derive(Clone, Copy, Debug, PartialEq, Eq)]
+pub enum AnswerRefusal {
+    /// Its bytes can't be had.
+    Unreadable,
+    /// It has more bytes than it may.
+    TooLarge,
+    /// It is no answer of the service.
+    BadAnswer,
 }
 
 /// Why there is no answer.

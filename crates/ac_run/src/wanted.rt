@@ -13,23 +13,30 @@ ghost use Rattle.ac_query.specs.Pairs.Values.{ids_value};
 ghost use Rattle.ac_query.specs.Shown.Queries.{asked_of};
 ghost use Rattle.ac_query.specs.Tokens.{ids_of, token_fault};
 ghost use Rattle.ac_run.specs.Answer.{Says, answer_in, at_host, ids_given, past_token, said_by, zone_named};
+ghost use Rattle.ac_run.specs.Compared.{answer_read};
+ghost use Rattle.ac_run.specs.Compared.Answers.{texts_in};
+ghost use Rattle.ac_run.specs.Comparing.{answer_refused};
 ghost use Rattle.ac_run.specs.Wanted.Given.{token_refusal};
 ghost use Rattle.ac_run.specs.declared.refusal.AskRefusal.TheVariants as AskRefusal;
 ghost use Rattle.ac_run.specs.Notes.{note_to, noted_by};
 ghost use Rattle.ac_run.specs.Stops.{AnswerMayStop, SearchMayStop};
 ghost use Rattle.ac_run.specs.Tasks.{command_shown, task_of, token_in};
-ghost use Rattle.ac_run.specs.Wanted.{ExplainsAt, ExplainsHost, ExplainsPage, ExplainsQuery, ExplainsRest, ExplainsToken, ExplainsWanted, IsSound, answer_to, details_in};
+ghost use Rattle.ac_run.specs.Wanted.{ExplainsAnswer, ExplainsAt, ExplainsHost, ExplainsPage, ExplainsQuery, ExplainsRest, ExplainsToken, ExplainsWanted, IsSound, answer_to, details_in};
 
 pub mod mark;
 
 use crate::capacity::flavors::{Plan, read_plans};
 use crate::job::{Command, Job};
-use crate::refusal::AskRefusal;
+use crate::outputs::compared::{AnswerFault, ServiceAnswer, read_answer};
+use crate::refusal::{AnswerRefusal, AskRefusal};
 use ac_base::{Id, NoMemory};
 use ac_cloud::Cloud;
 use ac_query::{Query, QueryFault, Token, TokenFault, Version};
 use ac_report::findings::{Question, root_place};
 use std::alloc::Global;
+
+/// The most bytes of an answer: 64 MiB, as of every table.
+const MOST_BYTES: usize = 67_108_864;
 
 /// A page of candidates: those of a query after a token, or all of them; of a root, where one is named by its place.
 #[derive(Drop)]
@@ -62,6 +69,8 @@ pub enum Wanted {
     Why(Query, u32),
     /// How many of each flavor the cloud can hold: as rows, or as metrics.
     Capacity(Vec<Plan>, bool),
+    /// What an answer of the service and the candidates have that the other hasn't.
+    Comparison(Query, ServiceAnswer),
     /// What is amiss in the cloud, with an aggregate as the zone of hosts, or with none.
     Amiss(Option<Id>),
 }
@@ -183,6 +192,22 @@ fn zone_named(text: Option<&str>) -> Option<Id>
     Id::read(text?.as_bytes())
 }
 
+// An answer of the service.
+fn read_compared(alloc: Global, bytes: &[u8]) -> Result<ServiceAnswer, AskRefusal>
+    ensures fine { OnOk result (answer_refused bytes.now ≡ None) }
+    ensures texts { IfOk result (λ answer. Some (texts_in answer) ≡ answer_read bytes.now) }
+    ensures fault { IfErr result (ExplainsAnswer (answer_refused bytes.now)) }
+{
+    if bytes.len() > MOST_BYTES {
+        return Err(AskRefusal::Answer(AnswerRefusal::TooLarge));
+    }
+    match read_answer(alloc, bytes) {
+        Ok(answer) => Ok(answer),
+        Err(AnswerFault::Malformed) => Err(AskRefusal::Answer(AnswerRefusal::BadAnswer)),
+        Err(AnswerFault::NoMemory) => Err(AskRefusal::NoMemory),
+    }
+}
+
 // What a query is wanted for.
 #[tactic(auto, using(crate::proofs::HostFound::host_within))]
 fn wanted_of(alloc: Global, job: &Job, cloud: &Cloud, query: Query) -> Result<Wanted, AskRefusal>
@@ -220,6 +245,9 @@ fn wanted_of(alloc: Global, job: &Job, cloud: &Cloud, query: Query) -> Result<Wa
         Command::Hosts { sum, within } => Ok(Wanted::Hosts(query, sum, within)),
         Command::Why { host } => Ok(Wanted::Why(query, find_host(cloud, host)?)),
         Command::Capacity { metrics, .. } => Ok(Wanted::Capacity(Vec::new(alloc), metrics)),
+        Command::Compare { answer } => {
+            Ok(Wanted::Comparison(query, read_compared(alloc, answer)?))
+        }
         Command::Audit { zone } => Ok(Wanted::Amiss(zone_named(zone))),
     }
 }

@@ -182,7 +182,7 @@ const TOKENS: Case = Case {
 };
 
 // An answer of each command over one provider.
-static ANSWERS: [Case; 12] = [
+static ANSWERS: [Case; 13] = [
     Case {
         output: "@1\n",
         ..TOKENS
@@ -282,6 +282,14 @@ static ANSWERS: [Case; 12] = [
              ac_flavor_short_at{flavor=\"a\",short_of=\"VCPU\"} 1\n",
         ..TOKENS
     },
+    Case {
+        command: Command::Compare {
+            answer: b"{\"allocation_requests\":[]}",
+        },
+        output: "only here: @1\nthe same: 0\n",
+        status: 1,
+        ..TOKENS
+    },
 ];
 
 // The token or the host of a command.
@@ -320,6 +328,7 @@ fn with_text<'a>(command: Command<'static>, text: Option<&'a str>) -> Command<'a
             host: text.unwrap_or(""),
         },
         Command::Capacity { flavors, metrics } => Command::Capacity { flavors, metrics },
+        Command::Compare { answer } => Command::Compare { answer },
         Command::Audit { zone } => Command::Audit { zone },
     }
 }

@@ -1,6 +1,7 @@
 -- The words of a line, cut off one by one.
 use Rattle.std.proofs.Common.{codes, ◌≡◌, ◌<◌, ℕ, List, [], ◌∷◌, None, Some, Bool, true, false, nat_lt, length, Option, option_map, if◌then◌else◌, refl, sym, ap, ◌∙◌, arith}
 use Rattle.std.specs.List.{after_first, before_first, position_or_len}
+use Rattle.std.specs.Option.{option_and_then}
 use Rattle.std.proofs.lemmas.List.Splits.{length-slice_split, slice_split_first, slice_split_none}
 use Rattle.std.proofs.lemmas.List.Sums.{fails_before_first}
 use Rattle.std.proofs.lemmas.Bool.Decides.{nat_tests}
@@ -8,7 +9,7 @@ use Rattle.std.proofs.lemmas.Str.{IsUtf8-from_is_utf8, is_utf8-from_IsUtf8}
 use Rattle.std.specs.Str.{IsUtf8, bytes_eq, is_utf8}
 use Rattle.ac_query.specs.declared.version.Version.{Version}
 use Rattle.ac_run.specs.Wanted.Mark.{past_mark}
-use Rattle.ac_session.specs.Questions.{Asked, unknown, wrong_number, asked_by_name, asked_of, asks_alone, behind_blank, is_blank, is_logged, is_passed_over, one_of, part_of, query_words, search_of, two_of, with_query, words_behind, words_of}
+use Rattle.ac_session.specs.Questions.{Asked, unknown, wrong_number, asked_by_name, asked_of, asks_alone, behind_blank, claim_of, is_blank, is_logged, is_passed_over, name_of, named_of, one_of, part_of, query_words, search_of, two_of, with_query, words_behind, words_of}
 use Rattle.ac_session.proofs.Leading.Firsts.{before_missed, place_inside}
 
 -- the words of a text are what stands before its first blank, and those behind it
@@ -69,6 +70,34 @@ module _ (text : List ℕ) (own : is_logged text ≡ false) where
 
   pub query_with_part : search_of (query_words (Some text)) ≡ option_map (λ part. (past_mark first, part.0, part.1)) (part_of (words_behind (behind_blank text)))
   query_with_part = ap search_of apart
+
+  pub query_with_claim : claim_of (query_words (Some text)) ≡ option_map (λ named. (past_mark first, named.0, named.1)) (named_of (words_behind (behind_blank text)))
+  query_with_claim = ap claim_of apart
+
+-- two words
+pub two_words_of : (text : List ℕ) → two_of (words_of text) ≡ option_map (λ word. (before_first is_blank text, word)) (one_of (words_behind (behind_blank text)))
+two_words_of text = ap two_of (words_split text) ∙ by (words_behind (behind_blank text))
+  where
+    by : (others : List (List ℕ)) → two_of (before_first is_blank text ∷ others) ≡ option_map (λ word. (before_first is_blank text, word)) (one_of others)
+    by [] = refl
+    by (word ∷ []) = refl
+    by (word ∷ next ∷ others) = refl
+
+-- a token, and perhaps a name
+pub named_alone : (text : List ℕ) → behind_blank text ≡ None → named_of (words_of text) ≡ Some (before_first is_blank text, None)
+named_alone text none = ap named_of (words_split text) ∙ ap (λ rest. named_of (before_first is_blank text ∷ words_behind rest)) none
+
+-- the name that a word alone is
+abbrev pub named_by : List ℕ → Option (List ℕ) → Option (List ℕ × Option (List ℕ))
+named_by token word = option_map (λ name. (token, Some name)) (option_and_then name_of word)
+
+pub named_more : (text rest : List ℕ) → behind_blank text ≡ Some rest → named_of (words_of text) ≡ named_by (before_first is_blank text) (one_of (words_of rest))
+named_more text rest found = ap named_of (words_split text) ∙ ap (λ rest. named_of (before_first is_blank text ∷ words_behind rest)) found ∙ by (words_of rest) (some_word rest)
+  where
+    by : (others : List (List ℕ)) → 0 < length others → named_of (before_first is_blank text ∷ others) ≡ named_by (before_first is_blank text) (one_of others)
+    by [] some = absurd (omega arith)
+    by (word ∷ []) some = refl
+    by (word ∷ next ∷ others) some = refl
 
 -- what stands behind a query, word by word
 pub part_alone : (text : List ℕ) → behind_blank text ≡ None → part_of (words_of text) ≡ Some (Some (before_first is_blank text), None)

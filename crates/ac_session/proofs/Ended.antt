@@ -14,16 +14,17 @@ use Rattle.ac_run.proofs.Told.{ends_answered, ends_tables}
 use Rattle.ac_run.specs.Answer.{Outcome, past_tables, size_refused, table_refused, told, written}
 use Rattle.ac_run.specs.Feeds.{Bytes, FeedRose, TellBytes, too_large}
 use Rattle.ac_run.specs.Wanted.Given.{tables_in}
-use Rattle.ac_run.specs.Lines.{memory_line}
+use Rattle.ac_run.specs.Lines.{memory_line, output_line}
 use Rattle.ac_run.specs.Run.{Ends, Explains, FailsOr, IsAnswered, IsRefused, IsStated, IsUnread}
 use Rattle.ac_run.specs.Stops.{SearchMayStop}
 use Rattle.ac_run.specs.Tasks.{Command, Paths}
 use Rattle.ac_run.specs.Tasks as command
 use Rattle.ac_session.proofs.Stood.{first_none, none_added}
+use Rattle.ac_session.specs.Held.{Held, unnamed}
 use Rattle.ac_session.specs.Lines.{Given, line, too_long, end}
-use Rattle.ac_session.specs.Questions.{Asked, job, fill, claim, release, usages, left_at, help, nothing, unknown, wrong_number, asked_of}
-use Rattle.ac_session.specs.Sessions.{held, held_with, session_answer, session_answer_with}
-use Rattle.ac_session.specs.Standing.{stop_status}
+use Rattle.ac_session.specs.Questions.{Asked, job, fill, claim, release, release_name, move, usages, left_at, help, nothing, unknown, wrong_number, asked_of}
+use Rattle.ac_session.specs.Sessions.{AreUnread, held, held_with, session_answer, session_answer_with}
+use Rattle.ac_session.specs.Standing.{stop_line, stop_status}
 use Rattle.ac_session.specs.Tries.{AreStops, AskedMayStop, GivenMayStop, WithStops, text_with}
 use Rattle.ac_session.specs.Turns.{lines_in, session_text, text_of, turn_of}
 use Rattle.ac_session.specs.declared.session.Stop.{Stop}
@@ -62,6 +63,23 @@ stops_by_device stop.Questions P Q unread unwritten seven p q = p (unread refl)
 stops_by_device stop.Output P Q unread unwritten seven p q = q (unwritten refl)
 stops_by_device stop.NoMemory P Q unread unwritten seven p q = seven refl
 
+-- what is told of a session that stopped, by its status
+module _ (rose : Type 0) (a b : Option (List ℕ)) (n m : ℕ) where
+  pub unread_is : (s : Stop) → (s ≡ stop.Questions → rose) → TakesLine a b n m (stop_line s) → stop_status s ≡ 3 → AreUnread rose a b n m
+  unread_is stop.Questions rises told e = record { rises = rises refl; line = told }
+  unread_is stop.Output rises told e = absurd (omega (arith, e))
+  unread_is stop.NoMemory rises told e = absurd (omega (arith, e))
+
+  pub output_is : (s : Stop) → (s ≡ stop.Output → rose) → TakesLine a b n m (stop_line s) → stop_status s ≡ 6 → rose × TakesLine a b n m output_line
+  output_is stop.Questions rises told e = absurd (omega (arith, e))
+  output_is stop.Output rises told e = (rises refl, told)
+  output_is stop.NoMemory rises told e = absurd (omega (arith, e))
+
+pub memory_is : (a b : Option (List ℕ)) (n m : ℕ) (s : Stop) → TakesLine a b n m (stop_line s) → stop_status s ≡ 7 → TakesLine a b n m memory_line
+memory_is a b n m stop.Questions told e = absurd (omega (arith, e))
+memory_is a b n m stop.Output told e = absurd (omega (arith, e))
+memory_is a b n m stop.NoMemory told e = told
+
 -- ---- without a number of tries no search stops
 
 explanation_none : (all : List Provider) (asked : Query) → ExplanationMayStop None all asked → ⊥
@@ -81,13 +99,16 @@ search_none command.explain version all asked may = explanation_none all asked m
 search_none (command.hosts sum within) version all asked may = may
 search_none (command.why host) version all asked may = may
 search_none (command.capacity flavors metrics) version all asked may = may.2
+search_none (command.compare answer) version all asked may = may
 search_none (command.audit _) version all asked may = may
 
 asked_none : (version : Version) (world : World) (asked : Asked) → AskedMayStop None version world asked → ⊥
 asked_none version world (job task) may = search_none task.command task.version world.providers _ may.0
 asked_none version world (fill query) may = may.0
-asked_none version world (claim query token) may = may
+asked_none version world (claim query token name) may = may
 asked_none version world (release query token) may = may
+asked_none version world (release_name name) may = may
+asked_none version world (move name token) may = may
 asked_none version world usages may = may
 asked_none version world (left_at host) may = may
 asked_none version world help may = may
@@ -102,18 +123,18 @@ given_none version world too_long may = may
 given_none version world end may = may
 
 -- so each line is answered whole
-whole_text : (version : Version) (world : World) (stops : List (Option (List ℕ))) (lines : List Given) → AreStops None version world stops lines
-    → text_with version world stops lines ≡ session_text version world lines
-whole_text version world [] lines are = refl
-whole_text version world (stop ∷ stops) [] are = refl
-whole_text version world (None ∷ stops) (given ∷ others) are =
-    ap (λ l. text_of (turn_of version world given) ++ l) (whole_text version (turn_of version world given).world stops others are.1)
-whole_text version world (Some written ∷ stops) (given ∷ others) are = absurd (given_none version world given are.0.0)
+whole_text : (version : Version) (state : Held) (stops : List (Option (List ℕ))) (lines : List Given) → AreStops None version state stops lines
+    → text_with version state stops lines ≡ session_text version state lines
+whole_text version state [] lines are = refl
+whole_text version state (stop ∷ stops) [] are = refl
+whole_text version state (None ∷ stops) (given ∷ others) are =
+    ap (λ l. text_of (turn_of version state given) ++ l) (whole_text version (turn_of version state given).state stops others are.1)
+whole_text version state (Some written ∷ stops) (given ∷ others) are = absurd (given_none version state.world given are.0.0)
 
-never_stops : (tries : Option ℕ) (version : Version) (world : World) (q : List ℕ) → tries ≡ None → (P : List ℕ → Type 0)
-    → WithStops tries version world q P → P (session_text version world (lines_in q))
-never_stops tries version world q none P found =
-    subst P (whole_text version world found.0 (lines_in q) (subst (λ t. AreStops t version world found.0 (lines_in q)) none found.1)) found.2
+never_stops : (tries : Option ℕ) (version : Version) (state : Held) (q : List ℕ) → tries ≡ None → (P : List ℕ → Type 0)
+    → WithStops tries version state q P → P (session_text version state (lines_in q))
+never_stops tries version state q none P found =
+    subst P (whole_text version state found.0 (lines_in q) (subst (λ t. AreStops t version state found.0 (lines_in q)) none found.1)) found.2
 
 -- ---- a world was stated
 
@@ -123,37 +144,37 @@ stated detail version b q world = in_world detail b (λ world. held version worl
 
 module _ (tries : Option ℕ) (detail : Option Paths) (version : Version) (b : Bytes) (q : List ℕ) (world : World) (is : IsStated b world) where
   -- what may be written of its questions is said of the bytes
-  stated_with : (P : Outcome → Type 0) → WithStops tries version world q (λ text. P (written text 0))
-      → (stops : List (Option (List ℕ))) × AreStops tries version (world_stated (tables_in b)) stops (lines_in q) × P (session_answer_with detail version b stops q)
+  stated_with : (P : Outcome → Type 0) → WithStops tries version (unnamed world) q (λ text. P (written text 0))
+      → (stops : List (Option (List ℕ))) × AreStops tries version (unnamed (world_stated (tables_in b))) stops (lines_in q) × P (session_answer_with detail version b stops q)
   unfolding session_answer_with
   stated_with P found = (
     found.0,
-    subst (λ w. AreStops tries version w found.0 (lines_in q)) is.states found.1,
+    subst (λ w. AreStops tries version (unnamed w) found.0 (lines_in q)) is.states found.1,
     subst P (sym (in_world detail b (λ world. held_with version world found.0 q) world is)) found.2,
   )
 
-  pub answered_with : (a c e f : Option (List ℕ)) (n : ℕ) → WithStops tries version world q (λ text. IsAnswered (written text 0) a c e f n)
-      → (stops : List (Option (List ℕ))) × AreStops tries version (world_stated (tables_in b)) stops (lines_in q)
+  pub answered_with : (a c e f : Option (List ℕ)) (n : ℕ) → WithStops tries version (unnamed world) q (λ text. IsAnswered (written text 0) a c e f n)
+      → (stops : List (Option (List ℕ))) × AreStops tries version (unnamed (world_stated (tables_in b))) stops (lines_in q)
       × IsAnswered (session_answer_with detail version b stops q) a c e f n
   answered_with a c e f n = stated_with (λ o. IsAnswered o a c e f n)
 
-  pub part_with : (a c : Option (List ℕ)) → WithStops tries version world q (λ text. IsFirstPart (append_known a text) c)
-      → (stops : List (Option (List ℕ))) × AreStops tries version (world_stated (tables_in b)) stops (lines_in q)
+  pub part_with : (a c : Option (List ℕ)) → WithStops tries version (unnamed world) q (λ text. IsFirstPart (append_known a text) c)
+      → (stops : List (Option (List ℕ))) × AreStops tries version (unnamed (world_stated (tables_in b))) stops (lines_in q)
       × IsFirstPart (append_known a (session_answer_with detail version b stops q).output) c
   part_with a c = stated_with (λ o. IsFirstPart (append_known a o.output) c)
 
   -- and whole, without a number of tries
-  pub answered_whole : tries ≡ None → (a c e f : Option (List ℕ)) (n : ℕ) → WithStops tries version world q (λ text. IsAnswered (written text 0) a c e f n)
+  pub answered_whole : tries ≡ None → (a c e f : Option (List ℕ)) (n : ℕ) → WithStops tries version (unnamed world) q (λ text. IsAnswered (written text 0) a c e f n)
       → IsAnswered (session_answer detail version b q) a c e f n
   answered_whole none a c e f n found =
       subst (λ o. IsAnswered o a c e f n) (sym (stated detail version b q world is))
-      (never_stops tries version world q none (λ text. IsAnswered (written text 0) a c e f n) found)
+      (never_stops tries version (unnamed world) q none (λ text. IsAnswered (written text 0) a c e f n) found)
 
-  pub part_whole : tries ≡ None → (a c : Option (List ℕ)) → WithStops tries version world q (λ text. IsFirstPart (append_known a text) c)
+  pub part_whole : tries ≡ None → (a c : Option (List ℕ)) → WithStops tries version (unnamed world) q (λ text. IsFirstPart (append_known a text) c)
       → IsFirstPart (append_known a (session_answer detail version b q).output) c
   part_whole none a c found =
       subst (λ o. IsFirstPart (append_known a o.output) c) (sym (stated detail version b q world is))
-      (never_stops tries version world q none (λ text. IsFirstPart (append_known a text) c) found)
+      (never_stops tries version (unnamed world) q none (λ text. IsFirstPart (append_known a text) c) found)
 
 -- the questions are at their end
 pub is_held : (a c err : Option (List ℕ)) (text : List ℕ) → Appends a c text → IsAnswered (written text 0) a c err err 0
@@ -215,11 +236,11 @@ module _ {R : Type 0} (remaining : R → Option (List ℕ)) (failures : R → �
 -- no line is answered, and no search stopped
 module _ (tries : Option ℕ) (detail : Option Paths) (version : Version) (b : Bytes) (q : List ℕ) where
   pub refused_with : (a c e f : Option (List ℕ)) (n : ℕ) → IsAnswered (session_answer detail version b q) a c e f n
-      → (stops : List (Option (List ℕ))) × AreStops tries version (world_stated (tables_in b)) stops (lines_in q)
+      → (stops : List (Option (List ℕ))) × AreStops tries version (unnamed (world_stated (tables_in b))) stops (lines_in q)
       × IsAnswered (session_answer_with detail version b stops q) a c e f n
   unfolding session_answer session_answer_with
   refused_with a c e f n said = ([], tt, said)
 
-  pub refused_part : (a : Option (List ℕ)) → (stops : List (Option (List ℕ))) × AreStops tries version (world_stated (tables_in b)) stops (lines_in q)
+  pub refused_part : (a : Option (List ℕ)) → (stops : List (Option (List ℕ))) × AreStops tries version (unnamed (world_stated (tables_in b))) stops (lines_in q)
       × IsFirstPart (append_known a (session_answer_with detail version b stops q).output) a
   refused_part a = ([], tt, first_none a (session_answer_with detail version b [] q).output)

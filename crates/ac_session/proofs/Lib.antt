@@ -1,11 +1,13 @@
 pub mod Rooms
 pub mod Leading
 pub mod Cuts
+pub mod Names
 pub mod Escaped
 pub mod Plain
 pub mod Apart
 pub mod Turned
 pub mod Stood
 pub mod Written
+pub mod Named
 pub mod Ended
 pub mod UsageRows

@@ -16,9 +16,11 @@ use Rattle.ac_query.specs.declared.fault.QueryFault.{QueryFault}
 use Rattle.ac_query.specs.declared.fault.QueryFault.TheVariants as query
 use Rattle.ac_query.specs.Shown.Faults.{fault_shown}
 use Rattle.ac_query.specs.declared.token.TokenFault.TheVariants as token
-use Rattle.ac_run.specs.Lines.{group_line, host_line, memory_line, pair_line, query_line, token_line}
+use Rattle.ac_run.specs.Lines.{answer_line, group_line, host_line, memory_line, pair_line, query_line, token_line}
 use Rattle.ac_run.specs.Flavors.{flavor_line, flavors_name, large_line, query_name, query_told, unread_line, why_shown}
 use Rattle.ac_run.specs.Refusals.{line_of_asked}
+use Rattle.ac_run.specs.declared.refusal.AnswerRefusal.{AnswerRefusal}
+use Rattle.ac_run.specs.declared.refusal.AnswerRefusal.TheVariants as answer
 use Rattle.ac_run.specs.declared.refusal.FlavorsRefusal.{FlavorsRefusal}
 use Rattle.ac_run.specs.declared.refusal.FlavorsRefusal.TheVariants as flavors
 use Rattle.ac_tables.specs.Tables.Names.{kind_name}
@@ -173,6 +175,12 @@ flavors_one (flavors.Record row k) = flavor_one row (kind_name k) (plain_kind k)
 flavors_one (flavors.NotText row) = flavor_one row (codes "BadQuery") (plain refl)
 flavors_one (flavors.Query row f) = flavor_one row (codes "BadQuery") (plain refl)
 
+answer_one : (refusal : AnswerRefusal) → IsLine (answer_line refusal)
+unfolding answer_line
+answer_one answer.Unreadable = line_end {a = codes "answer: Unreadable"} (plain refl)
+answer_one answer.TooLarge = line_end {a = codes "answer: TooLarge"} (plain refl)
+answer_one answer.BadAnswer = line_end {a = codes "answer: BadAnswer"} (plain refl)
+
 -- what is asked and refused is told in one line
 pub refusal_one : (refusal : AskRefusal) → IsLine (line_of_asked refusal)
 unfolding token_line host_line memory_line
@@ -183,4 +191,5 @@ refusal_one (ask.Token token.NoMemory) = line_end {a = codes "out of memory"} (p
 refusal_one (ask.Host host.Unknown) = line_end {a = codes "host: Unknown"} (plain refl)
 refusal_one (ask.Host host.Ambiguous) = line_end {a = codes "host: Ambiguous"} (plain refl)
 refusal_one (ask.Flavors f) = flavors_one f
+refusal_one (ask.Answer f) = answer_one f
 refusal_one ask.NoMemory = line_end {a = codes "out of memory"} (plain refl)

@@ -17,7 +17,7 @@ use Rattle.ac_query.specs.declared.version.Version.{Version}
 use Rattle.ac_report.specs.declared.fault.PageFault.{PageFault}
 use Rattle.ac_report.specs.declared.fault.PageFault.TheVariants as page_fault
 use Rattle.ac_rules.proofs.EachSlot.ClaimLaws.{claims_narrow}
-use Rattle.ac_rules.specs.Claims.{claimed, is_in_use, released}
+use Rattle.ac_rules.specs.Claims.{claimed, is_in_use, move_verdict, moved, released}
 use Rattle.ac_rules.specs.Judge.{is_candidate, judge}
 use Rattle.ac_rules.specs.Located.{places_of}
 use Rattle.ac_rules.specs.Placed.{Placed, assigned}
@@ -38,9 +38,9 @@ use Rattle.ac_run.specs.declared.refusal.AskRefusal.{AskRefusal}
 use Rattle.ac_run.specs.declared.refusal.AskRefusal.TheVariants as ask
 use Rattle.ac_session.proofs.Written.{turn_whole}
 use Rattle.ac_session.specs.Laws.{AskingLeavesAll, ClaimTurnsNarrow}
-use Rattle.ac_session.specs.Questions.{claim, fill, help, job, left_at, nothing, release, unknown, usages, wrong_number}
+use Rattle.ac_session.specs.Questions.{claim, fill, help, job, left_at, move, nothing, release, release_name, unknown, usages, wrong_number}
 use Rattle.ac_session.specs.Standing.{Gives, IsRefusal, TakesTurn}
-use Rattle.ac_session.specs.Turns.{claim_line, claim_of, claim_said, claim_turn, places_named, placed_by, release_line, release_of, release_said, release_turn, settles, world_after}
+use Rattle.ac_session.specs.Turns.{claim_line, claim_of, claim_said, claim_turn, move_line, move_of, move_said, move_turn, places_named, placed_by, release_line, release_of, release_said, release_turn, settles, world_after}
 use Rattle.ac_session.specs.declared.endings.AnswerFault.{AnswerFault}
 use Rattle.ac_session.specs.declared.endings.Ending.{Ending}
 
@@ -68,6 +68,7 @@ not_refused (wanted.Explanation question) tries world may = refl
 not_refused (wanted.Hosts query sum within) tries world may = refl
 not_refused (wanted.Why query host) tries world may = refl
 not_refused (wanted.Capacity plans metrics) tries world may = refl
+not_refused (wanted.Comparison query answer) tries world may = refl
 not_refused (wanted.Amiss _) tries world may = absurd may
 
 pub query_refused : (version : Version) (query : List ℕ) (refusal : AskRefusal) → ExplainsQuery (query_fault version query) refusal
@@ -76,6 +77,7 @@ query_refused version query (ask.Query f) h say token told = rw (h.2, h.1) refl
 query_refused version query (ask.Token f) h say token told = absurd h
 query_refused version query (ask.Host f) h say token told = absurd h
 query_refused version query (ask.Flavors f) h say token told = absurd h
+query_refused version query (ask.Answer f) h say token told = absurd h
 query_refused version query ask.NoMemory h say token told = absurd (told refl)
 
 pub token_refused : (version : Version) (query token : List ℕ) (asked : Asked) (refusal : AskRefusal) → query_fault version query ≡ None → asked ≡ asked_by version (pairs_of query)
@@ -84,6 +86,7 @@ token_refused version query token asked (ask.Token f) q e h say told = rw (q, �
 token_refused version query token asked (ask.Query f) q e h say told = absurd h
 token_refused version query token asked (ask.Host f) q e h say told = absurd h
 token_refused version query token asked (ask.Flavors f) q e h say told = absurd h
+token_refused version query token asked (ask.Answer f) q e h say told = absurd h
 token_refused version query token asked ask.NoMemory q e h say told = absurd (told refl)
 
 pub wanted_refused : (task : Task) (world : World) (refusal : AskRefusal) → ExplainsWanted task world refusal → IsRefusal refusal (answer_in task world)
@@ -92,6 +95,7 @@ wanted_refused task world (ask.Token f) h told = asks_query task.command _ task.
 wanted_refused task world (ask.Host f) h told =
     asks_query task.command _ task.version task.query world h.0 ∙ rw h.1 (host_refused task.command (is_some task.detail) world (asked_by task.version (pairs_of task.query)) h.2.0 f h.2.1 h.2.2 h.2.3)
 wanted_refused task world (ask.Flavors f) h told = rw (h.2, h.3) refl
+wanted_refused task world (ask.Answer f) h told = asks_query task.command _ task.version task.query world h.0 ∙ rw (h.1, h.2.1, h.2.2) refl
 wanted_refused task world ask.NoMemory h told = absurd (told refl)
 
 refused_status : (refusal : AskRefusal) (most : ℕ) → most ≤ 1 → nat_le (status_of_asked refusal) most ≡ false
@@ -99,6 +103,7 @@ refused_status (ask.Query f) most h = lt-leb 4 most (omega (arith, h))
 refused_status (ask.Token f) most h = lt-leb 5 most (omega (arith, h))
 refused_status (ask.Host f) most h = lt-leb 5 most (omega (arith, h))
 refused_status (ask.Flavors f) most h = lt-leb 4 most (omega (arith, h))
+refused_status (ask.Answer f) most h = lt-leb 5 most (omega (arith, h))
 refused_status ask.NoMemory most h = lt-leb 7 most (omega (arith, h))
 
 -- nothing changes behind a refusal
@@ -137,6 +142,19 @@ module _ (old new : World) (sizes : new.sizes ≡ old.sizes) (asked : Asked) (li
       by true made otherwise = same_world new (record old { providers = released old.providers (assigned asked list) }) (made refl) sizes
       by false made otherwise = otherwise refl
 
+  pub moved_so : (new_list : List ℕ) (v : Option Verdict) → v ≡ move_verdict old.providers asked list new_list → Gives ⊥ (Some (move_said v)) r a b f g
+      → (v ≡ Some verdict.Candidate → new.providers ≡ moved old.providers asked list new_list) → ((v ≡ Some verdict.Candidate → ⊥) → new.providers ≡ old.providers)
+      → TakesTurn ⊥ old (settles 0 old (move_of old.providers asked (Some list) (Some new_list)) (moved old.providers asked list new_list)) r new a b f g
+  moved_so new_list v is answer made otherwise =
+      subst (λ v. TakesTurn ⊥ old (settles 0 old (move_said v) (moved old.providers asked list new_list)) r new a b f g) is
+      (turn_whole old new (settles 0 old (move_said v) (moved old.providers asked list new_list)) r a b f g answer (by v made otherwise))
+    where
+      by : (v : Option Verdict) → (v ≡ Some verdict.Candidate → new.providers ≡ moved old.providers asked list new_list) → ((v ≡ Some verdict.Candidate → ⊥) → new.providers ≡ old.providers)
+          → new ≡ world_after 0 old (move_said v).status (moved old.providers asked list new_list)
+      by (Some verdict.Candidate) made otherwise = same_world new (record old { providers = moved old.providers asked list new_list }) (made refl) sizes
+      by (Some (verdict.Broken rule)) made otherwise = same_world new old (otherwise (λ e. cc)) sizes
+      by None made otherwise = same_world new old (otherwise (λ e. cc)) sizes
+
 -- the world behind placements
 pub filled_world : (old new : World) (asked : Asked) (limit : Option ℕ) (ts : List (List ℕ)) → new.providers ≡ after old.providers asked ts → new.sizes ≡ old.sizes
     → new ≡ world_after 1 old (fill_status limit ts) (after old.providers asked ts)
@@ -164,6 +182,26 @@ module _ (version : Version) (query token : List ℕ) (world : World) (asked : A
   release_read =
       ap₂ (λ o xs. settles 0 world o (released world.providers xs)) (said (release_line world.providers) ∙ ap (release_of world.providers asked) (sym named)) (sym read_so)
 
+-- the turn of a move, of whose tokens the second is read too
+module _ (version : Version) (query from to : List ℕ) (world : World) (asked : Asked) (found others : Option (List ℕ)) (is : asked ≡ asked_by version (pairs_of query))
+    (named : found ≡ places_named world.providers from) (said : (say : Says) → past_query say (Some from) version query ≡ say asked (ids_value from)) where
+  pub move_refused : (refusal : AskRefusal) → ExplainsToken (token_fault asked to) refusal → IsRefusal refusal (past_query (move_line world.providers to) (Some from) version query)
+  move_refused (ask.Token f) h told = said (move_line world.providers to) ∙ rw h refl
+  move_refused (ask.Query f) h told = absurd h
+  move_refused (ask.Host f) h told = absurd h
+  move_refused (ask.Flavors f) h told = absurd h
+  move_refused (ask.Answer f) h told = absurd h
+  move_refused ask.NoMemory h told = absurd (told refl)
+
+  pub move_read : token_fault asked to ≡ None → others ≡ places_named world.providers to → move_turn version query from to world
+      ≡ settles 0 world (move_of world.providers asked found others) (moved world.providers asked (unwrap_or found []) (unwrap_or others []))
+  unfolding move_turn
+  move_read fine named_too =
+      ap₂ (λ o all. settles 0 world o all)
+      (said (move_line world.providers to) ∙ rw fine (ap₂ (move_of world.providers asked) (sym named) (sym named_too)))
+      (ap₂ (λ (asked : Asked) (list : List ℕ). moved world.providers asked list (unwrap_or (places_named world.providers to) [])) (sym is) (ap (λ o. unwrap_or o []) (sym named))
+      ∙ ap (λ o. moved world.providers asked (unwrap_or found []) (unwrap_or o [])) (sym named_too))
+
 -- the places that were found are providers, one for each id
 module _ {V : Type 0} (items : V → List ℕ) (all : List Provider) (ids : List ℕ) where
   pub list_slots : (n : ℕ) (list : Option V) → option_map items list ≡ places_of all ids → length ids ≡ n → IfSome list (λ l. length (items l) ≡ n)
@@ -177,16 +215,18 @@ module _ {V : Type 0} (items : V → List ℕ) (all : List Provider) (ids : List
 -- ---- laws
 
 pub asking_leaves_all : AskingLeavesAll
-asking_leaves_all version world (job task) h = refl
-asking_leaves_all version world (fill query) h = absurd h
-asking_leaves_all version world (claim query token) h = absurd h
-asking_leaves_all version world (release query token) h = absurd h
-asking_leaves_all version world usages h = refl
-asking_leaves_all version world (left_at host) h = refl
-asking_leaves_all version world help h = refl
-asking_leaves_all version world nothing h = refl
-asking_leaves_all version world unknown h = refl
-asking_leaves_all version world wrong_number h = refl
+asking_leaves_all version held (job task) h = refl
+asking_leaves_all version held (fill query) h = absurd h
+asking_leaves_all version held (claim query token name) h = absurd h
+asking_leaves_all version held (release query token) h = absurd h
+asking_leaves_all version held (release_name name) h = absurd h
+asking_leaves_all version held (move name token) h = absurd h
+asking_leaves_all version held usages h = refl
+asking_leaves_all version held (left_at host) h = refl
+asking_leaves_all version held help h = refl
+asking_leaves_all version held nothing h = refl
+asking_leaves_all version held unknown h = refl
+asking_leaves_all version held wrong_number h = refl
 
 narrowed : (world : World) (status : ℕ) (xs : List Placed) (asked : Asked) (list : List ℕ)
     → is_candidate (world_after 0 world status (claimed world.providers xs)).providers asked list ≡ true → is_candidate world.providers asked list ≡ true

@@ -6,7 +6,6 @@ use Rattle.std.proofs.lemmas.Result.{on_ok_weaker}
 use Rattle.std.specs.Io.KnownBytes.{Appends, Keeps, append_known}
 use Rattle.ac_base.specs.Devices.{TakesPart}
 use Rattle.ac_base.specs.Gathered.{IsFirstPart}
-use Rattle.ac_cloud.specs.World.{World}
 use Rattle.ac_run.specs.Answer.{Outcome}
 use Rattle.ac_query.specs.declared.version.Version.{Version}
 use Rattle.ac_run.specs.Lines.{tries_line}
@@ -16,11 +15,12 @@ use Rattle.ac_session.proofs.Plain.{line_told, refusal_one}
 use Rattle.ac_session.proofs.Stood.{first_none, first_of_first, none_added}
 use Rattle.ac_session.specs.Escapes.{begun, marked_off}
 use Rattle.ac_session.specs.Frames.{lines_written}
+use Rattle.ac_session.specs.Held.{Held}
 use Rattle.ac_session.specs.Lines.{Given}
 use Rattle.ac_session.specs.Questions.LineFaults.{fault_line}
-use Rattle.ac_session.specs.Standing.{Answers, Closes, Gives, IsGiven, TakesTurn, end_told, mark_of, world_behind}
+use Rattle.ac_session.specs.Standing.{Answers, Closes, Gives, IsGiven, TakesTurn, end_told, mark_of, state_behind, status_told}
 use Rattle.ac_session.specs.Tries.{GivenMayStop, MayStopAt, turn_at}
-use Rattle.ac_session.specs.Turns.{Turn, answer_text, end_of, output_of, text_of, turn_of}
+use Rattle.ac_session.specs.Turns.{Turn, answer_text, end_of, output_of, status_of, text_of, turn_of}
 use Rattle.ac_session.specs.declared.endings.AnswerFault.{AnswerFault}
 use Rattle.ac_session.specs.declared.endings.Ending.{Ending}
 use Rattle.ac_session.specs.declared.endings.Ending.TheVariants as ending
@@ -53,58 +53,58 @@ module _ {P Q : Type 0} (weaker : P → Q) (result : Result Ending AnswerFault) 
       by (Ok end) closes = closes_weaker answer a b weaker end closes
       by (Err e) closes = tt
 
-  pub turn_weaker : (first now : World) (turn : Turn) → TakesTurn P first turn result now a b before after → TakesTurn Q first turn result now a b before after
-  turn_weaker first now turn takes = record { answer = gives_weaker turn.answer takes.answer; world = takes.world }
+  pub turn_weaker : {S : Type 0} (first now : S) (turn : Turn S) → TakesTurn P first turn result now a b before after → TakesTurn Q first turn result now a b before after
+  turn_weaker first now turn takes = record { answer = gives_weaker turn.answer takes.answer; state = takes.state }
 
--- where no search stops, the world is as the turn says
-pub turn_whole : (first now : World) (turn : Turn) (result : Result Ending AnswerFault) (a b : Option (List ℕ)) (before after : ℕ)
-    → Gives ⊥ turn.answer result a b before after → now ≡ turn.world → TakesTurn ⊥ first turn result now a b before after
-turn_whole first now turn result a b before after gives is = record { answer = gives; world = by result gives.ok }
+-- where no search stops, all is as the turn says
+pub turn_whole : {S : Type 0} (first now : S) (turn : Turn S) (result : Result Ending AnswerFault) (a b : Option (List ℕ)) (before after : ℕ)
+    → Gives ⊥ turn.answer result a b before after → now ≡ turn.state → TakesTurn ⊥ first turn result now a b before after
+turn_whole first now turn result a b before after gives is = record { answer = gives; state = by result gives.ok }
   where
-    at : (end : Ending) → Closes ⊥ turn.answer a b end → now ≡ world_behind first turn end
+    at : (end : Ending) → Closes ⊥ turn.answer a b end → now ≡ state_behind first turn end
     at ending.Stopped closes = absurd closes.0
     at (ending.Given status) closes = is
     at (ending.Refused refusal) closes = is
     at (ending.Faulted f) closes = is
     at ending.Unasked closes = is
 
-    by : (r : Result Ending AnswerFault) → IfOk r (Closes ⊥ turn.answer a b) → IfOk r (λ end. now ≡ world_behind first turn end)
+    by : (r : Result Ending AnswerFault) → IfOk r (Closes ⊥ turn.answer a b) → IfOk r (λ end. now ≡ state_behind first turn end)
     by (Ok end) closes = at end closes
     by (Err e) closes = tt
 
--- where the turn changes nothing, its world is as it was
-same_behind : (world : World) (answer : Option Outcome) (end : Ending) → world ≡ world_behind world (record { answer = answer; world = world }) end
-same_behind world answer ending.Stopped = refl
-same_behind world answer (ending.Given status) = refl
-same_behind world answer (ending.Refused refusal) = refl
-same_behind world answer (ending.Faulted f) = refl
-same_behind world answer ending.Unasked = refl
+-- where the turn changes nothing, all is as it was
+same_behind : {S : Type 0} (state : S) (answer : Option Outcome) (end : Ending) → state ≡ state_behind state (record { answer = answer; state = state }) end
+same_behind state answer ending.Stopped = refl
+same_behind state answer (ending.Given status) = refl
+same_behind state answer (ending.Refused refusal) = refl
+same_behind state answer (ending.Faulted f) = refl
+same_behind state answer ending.Unasked = refl
 
-pub turn_same : (may : Type 0) (world : World) (answer : Option Outcome) (result : Result Ending AnswerFault) (a b : Option (List ℕ)) (before after : ℕ)
-    → Gives may answer result a b before after → TakesTurn may world (record { answer = answer; world = world }) result world a b before after
-turn_same may world answer result a b before after gives = record { answer = gives; world = by result }
+pub turn_same : {S : Type 0} (may : Type 0) (state : S) (answer : Option Outcome) (result : Result Ending AnswerFault) (a b : Option (List ℕ)) (before after : ℕ)
+    → Gives may answer result a b before after → TakesTurn may state (record { answer = answer; state = state }) result state a b before after
+turn_same may state answer result a b before after gives = record { answer = gives; state = by result }
   where
-    by : (r : Result Ending AnswerFault) → IfOk r (λ end. world ≡ world_behind world (record { answer = answer; world = world }) end)
-    by (Ok end) = same_behind world answer end
+    by : (r : Result Ending AnswerFault) → IfOk r (λ end. state ≡ state_behind state (record { answer = answer; state = state }) end)
+    by (Ok end) = same_behind state answer end
     by (Err e) = tt
 
 -- a search that stopped changes nothing
-pub stopped_behind : (first : World) (turn : Turn) (result : Result Ending AnswerFault) → IfOk result (λ end. end ≡ ending.Stopped)
-    → IfOk result (λ end. first ≡ world_behind first turn end)
-stopped_behind first turn (Ok end) is = subst (λ end. first ≡ world_behind first turn end) (sym is) refl
+pub stopped_behind : {S : Type 0} (first : S) (turn : Turn S) (result : Result Ending AnswerFault) → IfOk result (λ end. end ≡ ending.Stopped)
+    → IfOk result (λ end. first ≡ state_behind first turn end)
+stopped_behind first turn (Ok end) is = subst (λ end. first ≡ state_behind first turn end) (sym is) refl
 stopped_behind first turn (Err e) is = tt
 
 -- an answer without output ends at once
-pub ends_so : (answer : Option Outcome) (world : World) (end : Ending) (a : Option (List ℕ)) (n : ℕ) → (end ≡ ending.Stopped → ⊥) → output_of answer ≡ [] → end_told end ≡ end_of answer
-    → TakesTurn ⊥ world (record { answer = answer; world = world }) (Ok end) world a a n n
-ends_so answer world end a n isnt none told = record {
+pub ends_so : {S : Type 0} (answer : Option Outcome) (state : S) (end : Ending) (a : Option (List ℕ)) (n : ℕ) → (end ≡ ending.Stopped → ⊥) → output_of answer ≡ [] → end_told end ≡ end_of answer
+    → status_told end ≡ status_of answer → TakesTurn ⊥ state (record { answer = answer; state = state }) (Ok end) state a a n n
+ends_so answer state end a n isnt none told status = record {
   answer = record {
-    ok = closes_whole ⊥ answer a a end isnt (record { output = none_added a (output_of answer) none; ends = told });
+    ok = closes_whole ⊥ answer a a end isnt (record { output = none_added a (output_of answer) none; ends = told; status = status });
     part = tt;
     failed = λ e. absurd cc;
     failures = omega arith;
   };
-  world = same_behind world answer end;
+  state = same_behind state answer end;
 }
 
 -- the line of a search that stopped
@@ -194,8 +194,8 @@ part_taken None f text h = ([], (text, refl), tt)
 part_taken (Some u) None text h = absurd h
 part_taken (Some u) (Some v) text h = (h.0, (h.1, h.2), h.3)
 
-module _ (tries : Option ℕ) (version : Version) (first : World) (given : Given) (now : World) (a g e f w : Option (List ℕ)) (kept : Keeps a g) (is : e ≡ begun g) where
-  abbrev turn : Turn
+module _ (tries : Option ℕ) (version : Version) (first : Held) (given : Given) (now : Held) (a g e f w : Option (List ℕ)) (kept : Keeps a g) (is : e ≡ begun g) where
+  abbrev turn : Turn Held
   turn = turn_of version first given
 
   -- it was given as its turn says, or up to where its search stopped
@@ -203,30 +203,30 @@ module _ (tries : Option ℕ) (version : Version) (first : World) (given : Given
     stop : Option (List ℕ)
     may : MayStopAt tries version first given stop
     output : IsGiven (turn_at version first stop given).answer e f end
-    world : now ≡ (turn_at version first stop given).world
+    state : now ≡ (turn_at version first stop given).state
 
-  is_at : (end : Ending) → Closes (GivenMayStop tries version first given) turn.answer e f end → now ≡ world_behind first turn end → IsAt end
+  is_at : (end : Ending) → Closes (GivenMayStop tries version first.world given) turn.answer e f end → now ≡ state_behind first turn end → IsAt end
   is_at ending.Stopped closes on =
       let taken = part_taken e f (output_of turn.answer) closes.1 in
-      record { stop = Some taken.0; may = (closes.0, taken.1.0, taken.1.1); output = record { output = taken.2; ends = refl }; world = on }
-  is_at (ending.Given status) closes on = record { stop = None; may = tt; output = closes; world = on }
-  is_at (ending.Refused refusal) closes on = record { stop = None; may = tt; output = closes; world = on }
-  is_at (ending.Faulted f) closes on = record { stop = None; may = tt; output = closes; world = on }
-  is_at ending.Unasked closes on = record { stop = None; may = tt; output = closes; world = on }
+      record { stop = Some taken.0; may = (closes.0, taken.1.0, taken.1.1); output = record { output = taken.2; ends = refl; status = refl }; state = on }
+  is_at (ending.Given status) closes on = record { stop = None; may = tt; output = closes; state = on }
+  is_at (ending.Refused refusal) closes on = record { stop = None; may = tt; output = closes; state = on }
+  is_at (ending.Faulted f) closes on = record { stop = None; may = tt; output = closes; state = on }
+  is_at ending.Unasked closes on = record { stop = None; may = tt; output = closes; state = on }
 
   pub answers_given : {T : Type 0} (result : Result T AnswerFault) (end : Ending) (before after : ℕ)
-      → TakesTurn (GivenMayStop tries version first given) first turn (Ok end) now e f before after
+      → TakesTurn (GivenMayStop tries version first.world given) first turn (Ok end) now e f before after
       → OnOk result ((old : Option (List ℕ)) (text : List ℕ) → Appends (begun old) f text → Appends old w (lines_written text ++ end_told end))
       → ((old : Option (List ℕ)) (text : List ℕ) → Appends (begun old) f text → IsFirstPart (append_known old (lines_written text ++ end_told end)) w)
       → Answers tries version first given result now a w
   answers_given result end before after takes whole part =
-      let at = is_at end takes.answer.ok takes.world in
+      let at = is_at end takes.answer.ok takes.state in
       let answer = (turn_at version first at.stop given).answer in
       record {
         stop = at.stop;
         may = at.may;
         ok = on_ok_weaker result (handed_whole answer a g e f w kept is end at.output) whole;
-        world = ok_any result _ at.world;
+        state = ok_any result _ at.state;
         part = handed_part answer a g e f w kept is end at.output part;
       }
 
@@ -235,10 +235,10 @@ module _ (tries : Option ℕ) (version : Version) (first : World) (given : Given
       → ((old : Option (List ℕ)) (text : List ℕ) → TakesPart (begun old) f text → IsFirstPart (append_known old (lines_written text)) h) → IsFirstPart h w
       → Answers {T = T} tries version first given (Err fault) now a w
   answers_begun fault h part hands more =
-      record { stop = None; may = tt; ok = tt; world = tt; part = handed_begun turn.answer a g e f w kept is h part hands more }
+      record { stop = None; may = tt; ok = tt; state = tt; part = handed_begun turn.answer a g e f w kept is h part hands more }
 
 -- nothing was written
-pub answers_none : {T : Type 0} (tries : Option ℕ) (version : Version) (first : World) (given : Given) (fault : AnswerFault) (now : World) (a : Option (List ℕ))
+pub answers_none : {T : Type 0} (tries : Option ℕ) (version : Version) (first : Held) (given : Given) (fault : AnswerFault) (now : Held) (a : Option (List ℕ))
     → Answers {T = T} tries version first given (Err fault) now a a
 answers_none tries version first given fault now a =
-    record { stop = None; may = tt; ok = tt; world = tt; part = first_none a (text_of (turn_of version first given)) }
+    record { stop = None; may = tt; ok = tt; state = tt; part = first_none a (text_of (turn_of version first given)) }

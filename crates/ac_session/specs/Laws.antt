@@ -7,9 +7,10 @@ use Rattle.ac_query.specs.Asked.{Asked as Query}
 use Rattle.ac_query.specs.declared.version.Version.{Version}
 use Rattle.ac_rules.specs.Judge.{is_candidate}
 use Rattle.ac_run.specs.Answer.{past_query, written}
+use Rattle.ac_session.specs.Held.{Held, unnamed}
 use Rattle.ac_session.specs.Lines.{Given, behind_line, first_line, is_newline, newline}
-use Rattle.ac_session.specs.Questions.{Asked, Text, job, fill, claim, release, usages, left_at, help, nothing, unknown, wrong_number, is_blank, words_of}
-use Rattle.ac_session.specs.Turns.{answers, claim_line, claim_turn, lines_in, release_turn, turn_asked, turn_of}
+use Rattle.ac_session.specs.Questions.{Asked, Text, job, fill, claim, release, release_name, move, usages, left_at, help, nothing, unknown, wrong_number, is_blank, words_of}
+use Rattle.ac_session.specs.Turns.{answers, claim_line, claim_turn, is_done, lines_in, named_release_turn, release_said, release_turn, status_of, turn_asked, turn_of}
 use Rattle.ac_tables.specs.Tables.{Tables, tables_fault, world_stated}
 use Rattle.ac_tables.specs.Tables.Rows.{records_of}
 use Rattle.ac_tables.specs.UsageRows.{usages_fit, usages_text}
@@ -28,12 +29,14 @@ pub record ReadsBack : Type 0 where
   pub line : (text rest : Text) → LacksNewlines text → first_line (text ++ newline ∷ rest) ≡ text
   pub behind : (text rest : Text) → LacksNewlines text → behind_line (text ++ newline ∷ rest) ≡ rest
 
--- what is asked is neither placements, nor a claim, nor a release
+-- what is asked is neither placements, nor a claim, nor a release, nor a move
 abbrev pub OnlyAsks : Asked → Type 0
 OnlyAsks (job task) = ⊤
 OnlyAsks (fill query) = ⊥
-OnlyAsks (claim query token) = ⊥
+OnlyAsks (claim query token name) = ⊥
 OnlyAsks (release query token) = ⊥
+OnlyAsks (release_name name) = ⊥
+OnlyAsks (move name token) = ⊥
 OnlyAsks usages = ⊤
 OnlyAsks (left_at host) = ⊤
 OnlyAsks help = ⊤
@@ -41,25 +44,30 @@ OnlyAsks nothing = ⊤
 OnlyAsks unknown = ⊤
 OnlyAsks wrong_number = ⊤
 
--- What only asks leaves the world as it was.
+-- What only asks leaves all as it was, the cloud and the names.
 abbrev pub AskingLeavesAll : Type 0
-AskingLeavesAll = (version : Version) (world : World) (asked : Asked) → OnlyAsks asked → (turn_asked version world asked).world ≡ world
+AskingLeavesAll = (version : Version) (held : Held) (asked : Asked) → OnlyAsks asked → (turn_asked version held asked).state ≡ held
 
 -- Each candidate behind a claim was one before it, whatever was claimed.
 abbrev pub ClaimTurnsNarrow : Type 0
 ClaimTurnsNarrow = (version : Version) (query token : Text) (world : World) (asked : Query) (list : List ℕ)
-    → is_candidate (claim_turn version query token world).world.providers asked list ≡ true → is_candidate world.providers asked list ≡ true
+    → is_candidate (claim_turn version query token world).state.providers asked list ≡ true → is_candidate world.providers asked list ≡ true
 
 -- What was claimed, the same words release: the world is as it was before the claim.
 abbrev pub ReleaseTurnUndoes : Type 0
 ReleaseTurnUndoes = (version : Version) (query token : Text) (world : World)
     → past_query (claim_line world.providers) (Some token) version query ≡ written (codes "claimed\n") 0
-    → release_turn version query token (claim_turn version query token world).world ≡ answers world (written (codes "released\n") 0)
+    → release_turn version query token (claim_turn version query token world).state ≡ answers world (written (codes "released\n") 0)
+
+-- A name that is released stands for nothing: who sends the same again is told so, and nothing changes.
+abbrev pub ReleasedOnce : Type 0
+ReleasedOnce = (version : Version) (name : Text) (held : Held) → is_done (status_of (named_release_turn version name held).answer) ≡ true
+    → named_release_turn version name (named_release_turn version name held).state ≡ answers (named_release_turn version name held).state (release_said false)
 
 -- the providers behind some lines
-abbrev pub providers_behind : Version → World → List Given → List Provider
-providers_behind version world [] = world.providers
-providers_behind version world (given ∷ others) = providers_behind version (turn_of version world given).world others
+abbrev pub providers_behind : Version → Held → List Given → List Provider
+providers_behind version held [] = held.world.providers
+providers_behind version held (given ∷ others) = providers_behind version (turn_of version held given).state others
 
 -- the tables, with the table of usages that is written of these providers
 abbrev pub with_usages : Tables → List Provider → Tables
@@ -73,5 +81,5 @@ pub record GoesOn (tables : Tables) (all : List Provider) : Type 0 where
 -- The end of a session is the start of the next: so it is of the table of usages at its end, where all that is used may stand in a table.
 abbrev pub SessionsGoOn : Type 0
 SessionsGoOn = (version : Version) (tables : Tables) (questions : Text) → tables_fault tables ≡ None
-    → usages_fit (providers_behind version (world_stated tables) (lines_in questions)) ≡ true
-    → GoesOn tables (providers_behind version (world_stated tables) (lines_in questions))
+    → usages_fit (providers_behind version (unnamed (world_stated tables)) (lines_in questions)) ≡ true
+    → GoesOn tables (providers_behind version (unnamed (world_stated tables)) (lines_in questions))

@@ -56,6 +56,22 @@ abbrev pub two_of : List Text → Option (Text × Text)
 two_of (first ∷ second ∷ []) = Some (first, second)
 two_of words = None
 
+-- a name, which isn't empty
+abbrev pub name_of : Text → Option Text
+name_of [] = None
+name_of (byte ∷ bytes) = Some (byte ∷ bytes)
+
+-- what stands behind a query that is claimed: a token, and perhaps a name
+abbrev pub named_of : List Text → Option (Text × Option Text)
+named_of (token ∷ []) = Some (token, None)
+named_of (token ∷ name ∷ []) = option_map (λ name. (token, Some name)) (name_of name)
+named_of words = None
+
+-- a query, with what stands behind it
+abbrev pub claim_of : List Text → Option (Text × Text × Option Text)
+claim_of [] = None
+claim_of (query ∷ words) = option_map (λ named. (query, named.0, named.1)) (named_of words)
+
 -- what stands behind a query: perhaps a token to begin after, and perhaps a host behind `at`
 abbrev pub part_of : List Text → Option (Option Text × Option Text)
 part_of [] = Some (None, None)
@@ -75,8 +91,10 @@ search_of (query ∷ words) = option_map (λ part. (query, part.0, part.1)) (par
 pub data Asked : Type 0 where
   job : Task → Asked
   fill : Text → Asked
-  claim : Text → Text → Asked
+  claim : Text → Text → Option Text → Asked
   release : Text → Text → Asked
+  release_name : Text → Asked
+  move : Text → Text → Asked
   usages : Asked
   left_at : Option Text → Asked
   help : Asked
@@ -114,13 +132,21 @@ asks_about command version words = asks (two_of words) (λ p. asks_job (command 
 abbrev pub asks_fill : List Text → Asked
 asks_fill words = asks (one_of words) fill
 
--- a query, and a token of what is taken
+-- a query, and a token of what is taken, perhaps with a name
 abbrev pub asks_claim : List Text → Asked
-asks_claim words = asks (two_of words) (λ p. claim p.0 p.1)
+asks_claim words = asks (claim_of words) (λ p. claim p.0 p.1 p.2)
 
--- a query, and a token of what is given back
-abbrev pub asks_release : List Text → Asked
-asks_release words = asks (two_of words) (λ p. release p.0 p.1)
+-- a name alone, or a query, and a token of what is given back
+abbrev pub releases : Option Text → List Text → Asked
+releases (Some name) words = asks (name_of name) release_name
+releases None words = asks (two_of words) (λ p. release p.0 p.1)
+
+abbrev pub asks_release : Option Text → Asked
+asks_release rest = releases (one_of (words_behind rest)) (query_words rest)
+
+-- a name, and a token to move to
+abbrev pub asks_move : List Text → Asked
+asks_move words = asks (two_of words) (λ p. asks (name_of p.0) (λ name. move name p.1))
 
 -- nothing, or a host
 abbrev pub asks_left : Option Text → Asked
@@ -143,7 +169,8 @@ asked_by_name version name rest =
     else if bytes_eq name (codes "why") then asks_about why version words
     else if bytes_eq name (codes "audit") then asks_alone (words_behind rest) (asks_job (task.audit None) [] V136)
     else if bytes_eq name (codes "claim") then asks_claim words
-    else if bytes_eq name (codes "release") then asks_release words
+    else if bytes_eq name (codes "release") then asks_release rest
+    else if bytes_eq name (codes "move") then asks_move (words_behind rest)
     else if bytes_eq name (codes "usages") then asks_alone (words_behind rest) usages
     else if bytes_eq name (codes "left") then asks_left rest
     else if bytes_eq name (codes "help") then asks_alone (words_behind rest) help
@@ -166,8 +193,10 @@ asked_of version line =
 abbrev pub asked_in : Question → Asked
 asked_in (question.Job j) = job (task_of j)
 asked_in (question.Fill query) = fill query.now
-asked_in (question.Claim query token) = claim query.now token.now
+asked_in (question.Claim query token name) = claim query.now token.now (option_map (λ t. t.now) name)
 asked_in (question.Release query token) = release query.now token.now
+asked_in (question.ReleaseName name) = release_name name.now
+asked_in (question.Move name token) = move name.now token.now
 asked_in question.Usages = usages
 asked_in (question.Left host) = left_at (option_map (λ t. t.now) host)
 asked_in question.Help = help

@@ -6,12 +6,13 @@ use Rattle.ac_query.specs.declared.version.Version.{Version}
 use Rattle.ac_run.specs.Answer.{Outcome, past_tables, written}
 use Rattle.ac_run.specs.Feeds.{Bytes}
 use Rattle.ac_run.specs.Tasks.{Paths}
+use Rattle.ac_session.specs.Held.{unnamed}
 use Rattle.ac_session.specs.Tries.{text_with}
 use Rattle.ac_session.specs.Turns.{lines_in, session_text}
 
 -- the answer of a session to a text of questions, in the world in which it begins
 abbrev pub held : Version → World → List ℕ → Outcome
-held version world questions = written (session_text version world (lines_in questions)) 0
+held version world questions = written (session_text version (unnamed world) (lines_in questions)) 0
 
 -- the answer of a session over the bytes of five tables
 unfoldable pub session_answer : Option Paths → Version → Bytes → List ℕ → Outcome
@@ -19,7 +20,7 @@ session_answer detail version b questions = past_tables detail b (λ world. held
 
 -- the same, where the searches of some lines stopped
 abbrev pub held_with : Version → World → List (Option (List ℕ)) → List ℕ → Outcome
-held_with version world stops questions = written (text_with version world stops (lines_in questions)) 0
+held_with version world stops questions = written (text_with version (unnamed world) stops (lines_in questions)) 0
 
 unfoldable pub session_answer_with : Option Paths → Version → Bytes → List (Option (List ℕ)) → List ℕ → Outcome
 session_answer_with detail version b stops questions = past_tables detail b (λ world. held_with version world stops questions)

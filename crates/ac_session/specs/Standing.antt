@@ -1,9 +1,8 @@
 -- Where a session stands between its questions.
-use Rattle.std.specs.Prelude.{◌≡◌, ℕ, ◌+◌, ◌≤◌, List, [], ◌∷◌, ◌++◌, codes, decimal, length, Option, Some, Result, Err, IfOk, OnErr, OnOk}
+use Rattle.std.specs.Prelude.{◌≡◌, ℕ, ◌+◌, ◌≤◌, List, [], ◌∷◌, ◌++◌, codes, decimal, length, Option, None, Some, Result, Err, IfOk, OnErr, OnOk}
 use Rattle.std.specs.Io.KnownBytes.{Appends, append_known}
 use Rattle.ac_base.specs.Devices.{Rises, TakesPart}
 use Rattle.ac_base.specs.Gathered.{IsFirstPart}
-use Rattle.ac_cloud.specs.World.{World}
 use Rattle.ac_query.specs.declared.version.Version.{Version}
 use Rattle.ac_run.specs.Answer.{Outcome, refused}
 use Rattle.ac_run.specs.Lines.{memory_line, output_line, tries_line}
@@ -11,11 +10,12 @@ use Rattle.ac_run.specs.Refusals.{line_of_asked, status_of_asked}
 use Rattle.ac_run.specs.declared.refusal.AskRefusal.{AskRefusal}
 use Rattle.ac_run.specs.declared.refusal.AskRefusal.TheVariants as ask
 use Rattle.ac_session.specs.Frames.{end_line}
+use Rattle.ac_session.specs.Held.{Held}
 use Rattle.ac_session.specs.Questions.LineFaults.{fault_line, fault_status}
 use Rattle.ac_session.specs.Sessions.{questions_line}
 use Rattle.ac_session.specs.Lines.{Given}
 use Rattle.ac_session.specs.Tries.{AreStops, MayStopAt, text_with, turn_at}
-use Rattle.ac_session.specs.Turns.{Turn, end_of, lines_in, output_of, text_of}
+use Rattle.ac_session.specs.Turns.{Turn, end_of, lines_in, output_of, status_of, text_of}
 use Rattle.ac_session.specs.declared.endings.AnswerFault.{AnswerFault}
 use Rattle.ac_session.specs.declared.endings.AnswerFault.TheVariants as fault
 use Rattle.ac_session.specs.declared.endings.Ending.{Ending}
@@ -25,16 +25,16 @@ use Rattle.ac_session.specs.declared.session.Stop.TheVariants as stop
 
 -- After so many turns the first questions of a text are answered, and the others are left: the bytes that were taken and what may be written for what is
 -- left may be written for the whole text.
-pub record Stands (tries : Option ℕ) (version : Version) (first : World) (questions : List ℕ) (before : Option (List ℕ)) (world : World)
+pub record Stands (tries : Option ℕ) (version : Version) (first : Held) (questions : List ℕ) (before : Option (List ℕ)) (held : Held)
     (remains after : Option (List ℕ)) (turns : ℕ) : Type 0 where
   pub rest : List ℕ
   pub left : remains ≡ Some rest
   pub stops : List (Option (List ℕ))
   pub written : List ℕ
   pub taken : Appends before after written
-  pub may : (later : List (Option (List ℕ))) → AreStops tries version world later (lines_in rest) → AreStops tries version first (stops ++ later) (lines_in questions)
-  pub text : (later : List (Option (List ℕ))) → AreStops tries version world later (lines_in rest)
-      → text_with version first (stops ++ later) (lines_in questions) ≡ written ++ text_with version world later (lines_in rest)
+  pub may : (later : List (Option (List ℕ))) → AreStops tries version held later (lines_in rest) → AreStops tries version first (stops ++ later) (lines_in questions)
+  pub text : (later : List (Option (List ℕ))) → AreStops tries version held later (lines_in rest)
+      → text_with version first (stops ++ later) (lines_in questions) ≡ written ++ text_with version held later (lines_in rest)
   pub fewer : length rest + turns ≤ length questions
 
 -- what stands before the line of a refusal
@@ -49,10 +49,19 @@ end_told (ending.Faulted f) = end_line fault_status (fault_line f)
 end_told ending.Unasked = []
 end_told ending.Stopped = end_line 8 tries_line
 
+-- its status, where something is answered
+abbrev pub status_told : Ending → Option ℕ
+status_told (ending.Given status) = Some status
+status_told (ending.Refused refusal) = Some (status_of_asked refusal)
+status_told (ending.Faulted f) = Some fault_status
+status_told ending.Unasked = None
+status_told ending.Stopped = Some 8
+
 -- The output of an answer was written whole, and this is how it ends.
 pub record IsGiven (answer : Option Outcome) (old new : Option (List ℕ)) (ending : Ending) : Type 0 where
   pub output : Appends old new (output_of answer)
   pub ends : end_told ending ≡ end_of answer
+  pub status : status_told ending ≡ status_of answer
 
 -- What an ending says of an answer: where its search stopped, which it may, a first part of its output was written; else it was given.
 abbrev pub Closes : Type 0 → Option Outcome → Option (List ℕ) → Option (List ℕ) → Ending → Type 0
@@ -69,25 +78,25 @@ pub record Gives (may : Type 0) (answer : Option Outcome) (result : Result Endin
   pub failed : result ≡ Err fault.WriteFailed → Rises before after
   pub failures : before ≤ after
 
--- the world behind a turn, by its ending: where its search stopped, it is as it was
-abbrev pub world_behind : World → Turn → Ending → World
-world_behind first turn ending.Stopped = first
-world_behind first turn (ending.Given status) = turn.world
-world_behind first turn (ending.Refused refusal) = turn.world
-world_behind first turn (ending.Faulted f) = turn.world
-world_behind first turn ending.Unasked = turn.world
+-- what there is behind a turn, by its ending: where its search stopped, it is as it was
+abbrev pub state_behind : {S : Type 0} → S → Turn S → Ending → S
+state_behind first turn ending.Stopped = first
+state_behind first turn (ending.Given status) = turn.state
+state_behind first turn (ending.Refused refusal) = turn.state
+state_behind first turn (ending.Faulted f) = turn.state
+state_behind first turn ending.Unasked = turn.state
 
--- A turn is taken: its answer is given, and then the world is as the turn says.
-pub record TakesTurn (may : Type 0) (first : World) (turn : Turn) (result : Result Ending AnswerFault) (now : World) (old new : Option (List ℕ)) (before after : ℕ) : Type 0 where
+-- A turn is taken: its answer is given, and then all is as the turn says.
+pub record TakesTurn {S : Type 0} (may : Type 0) (first : S) (turn : Turn S) (result : Result Ending AnswerFault) (now : S) (old new : Option (List ℕ)) (before after : ℕ) : Type 0 where
   pub answer : Gives may turn.answer result old new before after
-  pub world : IfOk result (λ end. now ≡ world_behind first turn end)
+  pub state : IfOk result (λ end. now ≡ state_behind first turn end)
 
 -- What bytes give is answered, perhaps up to where its search stopped; after an error a first part of the answer was written.
-pub record Answers {T : Type 0} (tries : Option ℕ) (version : Version) (first : World) (given : Given) (result : Result T AnswerFault) (now : World) (old new : Option (List ℕ)) : Type 0 where
+pub record Answers {T : Type 0} (tries : Option ℕ) (version : Version) (first : Held) (given : Given) (result : Result T AnswerFault) (now : Held) (old new : Option (List ℕ)) : Type 0 where
   pub stop : Option (List ℕ)
   pub may : MayStopAt tries version first given stop
   pub ok : OnOk result (Appends old new (text_of (turn_at version first stop given)))
-  pub world : OnOk result (now ≡ (turn_at version first stop given).world)
+  pub state : OnOk result (now ≡ (turn_at version first stop given).state)
   pub part : IsFirstPart (append_known old (text_of (turn_at version first stop given))) new
 
 -- an outcome is this refusal; of want of memory nothing is said

@@ -9,8 +9,9 @@ use Rattle.ac_run.specs.Lines.{tries_line}
 use Rattle.ac_run.specs.Stops.{SearchMayStop}
 use Rattle.ac_run.specs.Tasks.{Task}
 use Rattle.ac_search.specs.Shown.Walk.{MayStop}
+use Rattle.ac_session.specs.Held.{Held}
 use Rattle.ac_session.specs.Lines.{Given, line, too_long, end}
-use Rattle.ac_session.specs.Questions.{Asked, Text, job, fill, claim, release, usages, left_at, help, nothing, unknown, wrong_number, asked_of}
+use Rattle.ac_session.specs.Questions.{Asked, Text, job, fill, claim, release, release_name, move, usages, left_at, help, nothing, unknown, wrong_number, asked_of}
 use Rattle.ac_session.specs.Turns.{Turn, answers, lines_in, output_of, session_text, text_of, turn_of}
 
 -- ---- which may stop
@@ -29,8 +30,10 @@ FillMayStop tries version world query =
 abbrev pub AskedMayStop : Option ℕ → Version → World → Asked → Type 0
 AskedMayStop tries version world (job task) = JobMayStop tries world task
 AskedMayStop tries version world (fill query) = FillMayStop tries version world query
-AskedMayStop tries version world (claim query token) = ⊥
+AskedMayStop tries version world (claim query token name) = ⊥
 AskedMayStop tries version world (release query token) = ⊥
+AskedMayStop tries version world (release_name name) = ⊥
+AskedMayStop tries version world (move name token) = ⊥
 AskedMayStop tries version world usages = ⊥
 AskedMayStop tries version world (left_at host) = ⊥
 AskedMayStop tries version world help = ⊥
@@ -47,10 +50,10 @@ GivenMayStop tries version world end = ⊥
 -- A stop of a line is what was written of its output where its search stopped; none, where the line is answered whole.
 
 -- a line may be answered with this stop: what was written is a first part of its output then
-abbrev pub MayStopAt : Option ℕ → Version → World → Given → Option (List ℕ) → Type 0
-MayStopAt tries version world given None = ⊤
-MayStopAt tries version world given (Some written) =
-    GivenMayStop tries version world given × (more : List ℕ) × (output_of (turn_of version world given).answer ≡ written ++ more)
+abbrev pub MayStopAt : Option ℕ → Version → Held → Given → Option (List ℕ) → Type 0
+MayStopAt tries version held given None = ⊤
+MayStopAt tries version held given (Some written) =
+    GivenMayStop tries version held.world given × (more : List ℕ) × (output_of (turn_of version held given).answer ≡ written ++ more)
 
 -- ---- what is written
 
@@ -59,25 +62,25 @@ abbrev pub stopped : List ℕ → Outcome
 stopped written = record { output = written; line = tries_line; status = 8 }
 
 -- the turn of what bytes give; where its search stopped, nothing changes
-abbrev pub turn_at : Version → World → Option (List ℕ) → Given → Turn
-turn_at version world None given = turn_of version world given
-turn_at version world (Some written) given = answers world (stopped written)
+abbrev pub turn_at : Version → Held → Option (List ℕ) → Given → Turn Held
+turn_at version held None given = turn_of version held given
+turn_at version held (Some written) given = answers held (stopped written)
 
 -- what is written for lines, one after another, of which some stopped; behind the last stop each is answered whole
-abbrev pub text_with : Version → World → List (Option (List ℕ)) → List Given → List ℕ
-text_with version world [] lines = session_text version world lines
-text_with version world (stop ∷ stops) [] = []
-text_with version world (stop ∷ stops) (given ∷ others) =
-    text_of (turn_at version world stop given) ++ text_with version (turn_at version world stop given).world stops others
+abbrev pub text_with : Version → Held → List (Option (List ℕ)) → List Given → List ℕ
+text_with version held [] lines = session_text version held lines
+text_with version held (stop ∷ stops) [] = []
+text_with version held (stop ∷ stops) (given ∷ others) =
+    text_of (turn_at version held stop given) ++ text_with version (turn_at version held stop given).state stops others
 
--- The searches of lines may stop so, each in the world in which its line is answered.
-abbrev pub AreStops : Option ℕ → Version → World → List (Option (List ℕ)) → List Given → Type 0
-AreStops tries version world [] lines = ⊤
-AreStops tries version world (stop ∷ stops) [] = (stop ≡ None) × AreStops tries version world stops []
-AreStops tries version world (stop ∷ stops) (given ∷ others) =
-    MayStopAt tries version world given stop × AreStops tries version (turn_at version world stop given).world stops others
+-- The searches of lines may stop so, each over what is held when its line is answered.
+abbrev pub AreStops : Option ℕ → Version → Held → List (Option (List ℕ)) → List Given → Type 0
+AreStops tries version held [] lines = ⊤
+AreStops tries version held (stop ∷ stops) [] = (stop ≡ None) × AreStops tries version held stops []
+AreStops tries version held (stop ∷ stops) (given ∷ others) =
+    MayStopAt tries version held given stop × AreStops tries version (turn_at version held stop given).state stops others
 
 -- what may be written for a text of questions fulfils this
-abbrev pub WithStops : Option ℕ → Version → World → List ℕ → (List ℕ → Type 0) → Type 0
-WithStops tries version world questions Holds =
-    (stops : List (Option (List ℕ))) × AreStops tries version world stops (lines_in questions) × Holds (text_with version world stops (lines_in questions))
+abbrev pub WithStops : Option ℕ → Version → Held → List ℕ → (List ℕ → Type 0) → Type 0
+WithStops tries version held questions Holds =
+    (stops : List (Option (List ℕ))) × AreStops tries version held stops (lines_in questions) × Holds (text_with version held stops (lines_in questions))

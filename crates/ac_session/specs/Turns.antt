@@ -1,5 +1,5 @@
 -- Turns of a session: what a question does, and what is written for lines one after another.
-use Rattle.std.specs.Prelude.{ℕ, Bool, true, false, nat_le, nat_lt, List, [], ◌∷◌, ◌++◌, map, length, codes, Option, Some, None, if◌then◌else◌}
+use Rattle.std.specs.Prelude.{ℕ, ◌==◌, Bool, true, false, nat_le, nat_lt, List, [], ◌∷◌, ◌++◌, map, length, codes, Option, Some, None, if◌then◌else◌}
 use Rattle.std.specs.List.{slice_split}
 use Rattle.std.specs.Option.{option_and_then, unwrap_or}
 use Rattle.ac_cloud.specs.World.{Provider, World}
@@ -9,28 +9,31 @@ use Rattle.ac_query.specs.Pairs.{pairs_of}
 use Rattle.ac_query.specs.Pairs.Values.{ids_value}
 use Rattle.ac_fill.specs.Filled.{after, filled}
 use Rattle.ac_query.specs.declared.version.Version.{Version}
-use Rattle.ac_rules.specs.Claims.{claimed, is_in_use, released}
+use Rattle.ac_rules.specs.Claims.{claimed, is_in_use, move_verdict, moved, released}
 use Rattle.ac_rules.specs.Judge.{judge}
 use Rattle.ac_rules.specs.Located.{places_of}
 use Rattle.ac_rules.specs.Placed.{Placed, assigned}
 use Rattle.ac_rules.specs.declared.verdict.Verdict.{Verdict}
 use Rattle.ac_rules.specs.declared.verdict.Verdict.TheVariants as verdict
-use Rattle.ac_run.specs.Answer.{Outcome, Says, answer_in, fills, past_query, refused, written}
+use Rattle.ac_query.specs.Tokens.{token_fault}
+use Rattle.ac_run.specs.Answer.{Outcome, Says, answer_in, fills, past_query, refused, told, written}
+use Rattle.ac_run.specs.Lines.{token_line}
 use Rattle.ac_run.specs.Outputs.{verdict_text}
 use Rattle.ac_session.specs.Frames.{end_line, lines_written}
 use Rattle.ac_session.specs.Questions.LineFaults.{fault_line, fault_status}
 use Rattle.ac_session.specs.Lines.{Given, line, too_long, end, is_newline, most_bytes, without_return}
 use Rattle.ac_session.specs.Helps.{help_text}
 use Rattle.ac_session.specs.LeftRows.{left_answer}
-use Rattle.ac_session.specs.Questions.{Asked, job, fill, claim, release, usages, left_at, help, nothing, unknown, wrong_number, asked_of}
+use Rattle.ac_session.specs.Held.{Claim, Held, Named, standing}
+use Rattle.ac_session.specs.Questions.{Asked, job, fill, claim, release, release_name, move, usages, left_at, help, nothing, unknown, wrong_number, asked_of}
 use Rattle.ac_session.specs.UsageRows.{usage_rows}
 use Rattle.ac_session.specs.declared.line_faults.LineFault.{LineFault}
 use Rattle.ac_session.specs.declared.line_faults.LineFault.TheVariants as fault
 
--- what a question does: what is answered, if anything is, and the world as it stands behind it
-pub record Turn : Type 0 where
+-- what a question does: what is answered, if anything is, and what there is behind it, of the cloud alone or of all that a session holds
+pub record Turn (S : Type 0) : Type 0 where
   pub answer : Option Outcome
-  pub world : World
+  pub state : S
 
 -- ---- an answer
 
@@ -49,16 +52,16 @@ abbrev pub answer_text : Option Outcome → List ℕ
 answer_text answer = lines_written (output_of answer) ++ end_of answer
 
 -- what is written for a question
-abbrev pub text_of : Turn → List ℕ
+abbrev pub text_of : {S : Type 0} → Turn S → List ℕ
 text_of turn = answer_text turn.answer
 
 -- an answer, and nothing changes
-abbrev pub answers : World → Outcome → Turn
-answers world o = record { answer = Some o; world = world }
+abbrev pub answers : {S : Type 0} → S → Outcome → Turn S
+answers state o = record { answer = Some o; state = state }
 
 -- nothing is answered, and nothing changes
-abbrev pub passes : World → Turn
-passes world = record { answer = None; world = world }
+abbrev pub passes : {S : Type 0} → S → Turn S
+passes state = record { answer = None; state = state }
 
 -- what is wrong with a line that asks nothing
 abbrev pub faulted : LineFault → Outcome
@@ -71,8 +74,8 @@ abbrev pub world_after : ℕ → World → ℕ → List Provider → World
 world_after most world status all = if nat_le status most then record world { providers = all } else world
 
 -- an answer; where its status is no more than this one, the providers are these afterwards
-abbrev pub settles : ℕ → World → Outcome → List Provider → Turn
-settles most world o all = record { answer = Some o; world = world_after most world o.status all }
+abbrev pub settles : ℕ → World → Outcome → List Provider → Turn World
+settles most world o all = record { answer = Some o; state = world_after most world o.status all }
 
 -- the places of the providers that a token names, where each is there
 abbrev pub places_named : List Provider → List ℕ → Option (List ℕ)
@@ -112,14 +115,36 @@ abbrev pub release_line : List Provider → Says
 release_line all asked ids = release_of all asked (option_and_then (places_of all) ids)
 
 -- A candidate is claimed: each of its amounts is used as well afterwards.
-unfoldable pub claim_turn : Version → List ℕ → List ℕ → World → Turn
+unfoldable pub claim_turn : Version → List ℕ → List ℕ → World → Turn World
 claim_turn version query token world =
     settles 0 world (past_query (claim_line world.providers) (Some token) version query) (claimed world.providers (placed_by version world.providers query token))
 
 -- What is in use is released: it isn't used afterwards.
-unfoldable pub release_turn : Version → List ℕ → List ℕ → World → Turn
+unfoldable pub release_turn : Version → List ℕ → List ℕ → World → Turn World
 release_turn version query token world =
     settles 0 world (past_query (release_line world.providers) (Some token) version query) (released world.providers (placed_by version world.providers query token))
+
+-- what a move says: nothing of rules, where not so much is in use
+abbrev pub move_said : Option Verdict → Outcome
+move_said None = release_said false
+move_said (Some verdict.Candidate) = written (codes "moved\n") 0
+move_said (Some (verdict.Broken rule)) = claim_said (verdict.Broken rule)
+
+abbrev pub move_of : List Provider → Query → Option (List ℕ) → Option (List ℕ) → Outcome
+move_of all asked None to = unknown_provider
+move_of all asked (Some from) None = unknown_provider
+move_of all asked (Some from) (Some to) = move_said (move_verdict all asked from to)
+
+-- what is said of a token to move to, of an accepted query and the ids of its token
+abbrev pub move_line : List Provider → List ℕ → Says
+move_line all to asked ids =
+    told (token_fault asked to) (λ f. refused (token_line f) 5) (move_of all asked (option_and_then (places_of all) ids) (places_named all to))
+
+-- What is in use by a token is given back, and the same is claimed by another token: both, or neither.
+unfoldable pub move_turn : Version → List ℕ → List ℕ → List ℕ → World → Turn World
+move_turn version query from to world =
+    settles 0 world (past_query (move_line world.providers to) (Some from) version query)
+    (moved world.providers (asked_by version (pairs_of query)) (unwrap_or (places_named world.providers from) []) (unwrap_or (places_named world.providers to) []))
 
 -- ---- placements
 
@@ -128,30 +153,78 @@ abbrev pub after_fill : List Provider → Query → List Provider
 after_fill all asked = after all asked (filled asked.limit all asked)
 
 -- A query is placed again and again, and each placement is claimed, be they fewer than the limit.
-unfoldable pub fill_turn : Version → List ℕ → World → Turn
+unfoldable pub fill_turn : Version → List ℕ → World → Turn World
 fill_turn version query world =
     settles 1 world (past_query (fills world.providers false) None version query) (after_fill world.providers (asked_by version (pairs_of query)))
+
+-- ---- claims by name
+
+-- the status of an answer, where there is one
+abbrev pub status_of : Option Outcome → Option ℕ
+status_of None = None
+status_of (Some o) = Some o.status
+
+-- what was asked is done
+abbrev pub is_done : Option ℕ → Bool
+is_done None = false
+is_done (Some status) = status == 0
+
+-- a turn of the cloud, and the names stay
+abbrev pub with_names : Named → Turn World → Turn Held
+with_names named turn = record { answer = turn.answer; state = record { world = turn.state; named = named } }
+
+-- a turn of the cloud; where it is done, a name stands for this behind it
+abbrev pub with_name : List ℕ → Option Claim → Named → Turn World → Turn Held
+with_name name made named turn = with_names (if is_done (status_of turn.answer) then standing name made named else named) turn
+
+-- A claim with a name: where the name stands for one already, nothing is claimed.
+abbrev pub claimed_as : Version → List ℕ → List ℕ → List ℕ → Held → Option Claim → Turn Held
+claimed_as version query token name held (Some made) = answers held (written (codes "in use\n") 1)
+claimed_as version query token name held None = with_name name (Some (record { query = query; token = token })) held.named (claim_turn version query token held.world)
+
+unfoldable pub named_claim_turn : Version → List ℕ → List ℕ → List ℕ → Held → Turn Held
+named_claim_turn version query token name held = claimed_as version query token name held (held.named name)
+
+-- What a name stands for is given back, and then it stands for nothing.
+abbrev pub released_as : Version → List ℕ → Held → Option Claim → Turn Held
+released_as version name held None = answers held (release_said false)
+released_as version name held (Some made) = with_name name None held.named (release_turn version made.query made.token held.world)
+
+unfoldable pub named_release_turn : Version → List ℕ → Held → Turn Held
+named_release_turn version name held = released_as version name held (held.named name)
+
+-- What a name stands for is given back, and the same query is claimed by another token: both, or neither. Then it stands for that.
+abbrev pub moved_as : Version → List ℕ → List ℕ → Held → Option Claim → Turn Held
+moved_as version name token held None = answers held (release_said false)
+moved_as version name token held (Some made) =
+    with_name name (Some (record { query = made.query; token = token })) held.named (move_turn version made.query made.token token held.world)
+
+unfoldable pub named_move_turn : Version → List ℕ → List ℕ → Held → Turn Held
+named_move_turn version name token held = moved_as version name token held (held.named name)
 
 -- ---- turns
 
 -- the turn of what is asked
-abbrev pub turn_asked : Version → World → Asked → Turn
-turn_asked version world (job task) = answers world (answer_in task world)
-turn_asked version world (fill query) = fill_turn version query world
-turn_asked version world (claim query token) = claim_turn version query token world
-turn_asked version world (release query token) = release_turn version query token world
-turn_asked version world usages = answers world (usage_rows world.providers)
-turn_asked version world (left_at host) = answers world (left_answer world.providers host)
-turn_asked version world help = answers world (written help_text 0)
-turn_asked version world nothing = passes world
-turn_asked version world unknown = answers world (faulted fault.UnknownCommand)
-turn_asked version world wrong_number = answers world (faulted fault.WrongNumber)
+abbrev pub turn_asked : Version → Held → Asked → Turn Held
+turn_asked version held (job task) = answers held (answer_in task held.world)
+turn_asked version held (fill query) = with_names held.named (fill_turn version query held.world)
+turn_asked version held (claim query token None) = with_names held.named (claim_turn version query token held.world)
+turn_asked version held (claim query token (Some name)) = named_claim_turn version query token name held
+turn_asked version held (release query token) = with_names held.named (release_turn version query token held.world)
+turn_asked version held (release_name name) = named_release_turn version name held
+turn_asked version held (move name token) = named_move_turn version name token held
+turn_asked version held usages = answers held (usage_rows held.world.providers)
+turn_asked version held (left_at host) = answers held (left_answer held.world.providers host)
+turn_asked version held help = answers held (written help_text 0)
+turn_asked version held nothing = passes held
+turn_asked version held unknown = answers held (faulted fault.UnknownCommand)
+turn_asked version held wrong_number = answers held (faulted fault.WrongNumber)
 
 -- the turn of what bytes give
-unfoldable pub turn_of : Version → World → Given → Turn
-turn_of version world (line text) = turn_asked version world (asked_of version text)
-turn_of version world too_long = answers world (faulted fault.TooLong)
-turn_of version world end = passes world
+unfoldable pub turn_of : Version → Held → Given → Turn Held
+turn_of version held (line text) = turn_asked version held (asked_of version text)
+turn_of version held too_long = answers held (faulted fault.TooLong)
+turn_of version held end = passes held
 
 -- ---- the lines of a text
 
@@ -164,7 +237,7 @@ unfoldable pub lines_in : List ℕ → List Given
 lines_in bytes = map given_line (slice_split is_newline bytes)
 
 -- what is written for lines, one after another
-abbrev pub session_text : Version → World → List Given → List ℕ
-session_text version world [] = []
-session_text version world (given ∷ others) =
-    text_of (turn_of version world given) ++ session_text version (turn_of version world given).world others
+abbrev pub session_text : Version → Held → List Given → List ℕ
+session_text version held [] = []
+session_text version held (given ∷ others) =
+    text_of (turn_of version held given) ++ session_text version (turn_of version held given).state others

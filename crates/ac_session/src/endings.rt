@@ -17,7 +17,7 @@ ghost use Rattle.ac_session.specs.declared.endings.Ending.TheVariants as Ending;
 
 use crate::escaping::Escaping;
 use crate::line_faults::LineFault;
-use ac_base::{Digits, Sink, WriteFailed, push_all, push_pieces};
+use ac_base::{Digits, NoMemory, Sink, WriteFailed, push_all, push_pieces};
 use ac_report::PageFault;
 use ac_run::{AskRefusal, asked_status, push_asked_line};
 
@@ -53,6 +53,17 @@ impl From<WriteFailed> for AnswerFault {
 
     fn from(_error: WriteFailed) -> AnswerFault {
         AnswerFault::WriteFailed
+    }
+}
+
+impl From<NoMemory> for AnswerFault {
+    ghost use Rattle.std.specs.Prelude.{◌≡◌};
+    ghost use Rattle.ac_session.specs.declared.endings.AnswerFault.TheVariants as fault;
+
+    ghost from_gives = { λ _ e. e ≡ fault.NoMemory };
+
+    fn from(_error: NoMemory) -> AnswerFault {
+        AnswerFault::NoMemory
     }
 }
 

@@ -1,13 +1,13 @@
 //! Laws of the definitions. Each function does nothing: its contract is the law.
 ghost use Rattle.ac_session.specs.Laws.Apart.{AnswersApart, BlanksComeOff, SessionsApart, StoppedApart};
-ghost use Rattle.ac_session.specs.Laws.{AskingLeavesAll, ClaimTurnsNarrow, ReadsBack, ReleaseTurnUndoes, SessionsGoOn};
+ghost use Rattle.ac_session.specs.Laws.{AskingLeavesAll, ClaimTurnsNarrow, ReadsBack, ReleaseTurnUndoes, ReleasedOnce, SessionsGoOn};
 
 /// What is written as a line of words is read as these words, and what is written behind it is left.
 pub fn reads_back()
     ensures { ReadsBack }
 {}
 
-/// What is neither a claim nor a release leaves the world as it was.
+/// What is neither placements nor a claim, a release or a move leaves all as it was.
 pub fn asking_leaves_all()
     ensures { AskingLeavesAll }
 {}
@@ -20,6 +20,11 @@ pub fn claim_turns_narrow()
 /// What was claimed, the same words release: the world is as it was before the claim.
 pub fn release_turn_undoes()
     ensures { ReleaseTurnUndoes }
+{}
+
+/// What a name that was released stands for isn't released again: who sends that twice is told so.
+pub fn released_once()
+    ensures { ReleasedOnce }
 {}
 
 /// Who reads up to the first line that begins with `=` has read what is written for a line of a session, whatever it says and whatever stands behind it.

@@ -2,7 +2,7 @@
 ghost use Rattle.std.specs.Prelude.{◌≡◌, ◌∷◌, true, option_map};
 ghost use Rattle.std.specs.List.{before_first, list_any};
 ghost use Rattle.ac_run.specs.Tasks.{candidates, command_shown, list, tokens, verify, why};
-ghost use Rattle.ac_session.specs.Questions.{asked_by_name, asked_in, asked_of, asks_about, asks_alone, asks_claim, asks_fill, asks_job, asks_left, asks_query, asks_release, asks_search, behind_blank, is_blank, is_logged, is_passed_over, one_of, part_of, query_words, search_of, two_of, words_behind, words_of};
+ghost use Rattle.ac_session.specs.Questions.{asked_by_name, asked_in, asked_of, asks, asks_about, asks_alone, asks_claim, asks_fill, asks_job, asks_left, asks_move, asks_query, asks_release, asks_search, behind_blank, claim_of, is_blank, is_logged, is_passed_over, move, name_of, named_of, one_of, part_of, query_words, release_name, search_of, two_of, words_behind, words_of};
 
 use ac_query::Version;
 use ac_run::{Command, Job, has_path, past_mark};
@@ -13,15 +13,35 @@ pub enum Question<'a> {
     /// What the command of that name does.
     Job(Job<'a>),
     /// To place a query again and again, and to take what each placement asks.
-    Fill { query: &'a str },
-    /// To take what a token names.
-    Claim { query: &'a str, token: &'a str },
+    Fill {
+        query: &'a str,
+    },
+    /// To take what a token names. A name may stand for it.
+    Claim {
+        query: &'a str,
+        token: &'a str,
+        name: Option<&'a str>,
+    },
     /// To give it back.
-    Release { query: &'a str, token: &'a str },
+    Release {
+        query: &'a str,
+        token: &'a str,
+    },
+    /// To give back what a name stands for.
+    ReleaseName {
+        name: &'a str,
+    },
+    /// To give it back, and to take what a token names in its place.
+    Move {
+        name: &'a str,
+        token: &'a str,
+    },
     /// The used amounts.
     Usages,
     /// What is left of all inventories, or of those of a host's tree.
-    Left { host: Option<&'a str> },
+    Left {
+        host: Option<&'a str>,
+    },
     /// What may be asked.
     Help,
     /// Nothing: the line is empty, or a comment.
@@ -96,6 +116,53 @@ fn query_and_word(rest: Option<&str>) -> Option<(&str, &str)>
     let (query, rest) = cut(rest?);
     let word = one_word(rest)?;
     Some((past_mark(query), word))
+}
+
+// A name, which isn't empty.
+fn name(word: &str) -> Option<&str>
+    ensures { option_map (λ t. t.now) result ≡ name_of word.now }
+{
+    if word.is_empty() { None } else { Some(word) }
+}
+
+// What stands behind a query that is claimed: a token, and perhaps a name.
+#[tactic(auto, using(crate::proofs::Cuts::named_alone, crate::proofs::Cuts::named_more))]
+fn token_and_name(rest: Option<&str>) -> Option<(&str, Option<&str>)>
+    ensures { option_map (λ p. (p.0.now, option_map (λ t. t.now) p.1)) result
+        ≡ named_of (words_behind (option_map (λ t. t.now) rest.entry)) }
+{
+    match cut(rest?) {
+        (token, None) => Some((token, None)),
+        (token, Some(rest)) => {
+            let name = name(one_word(Some(rest))?)?;
+            Some((token, Some(name)))
+        }
+    }
+}
+
+// The query of a rest, with what stands behind it where it is claimed.
+#[tactic(auto, using(crate::proofs::Cuts::logged_alone, crate::proofs::Cuts::query_with_claim))]
+fn claimed(rest: Option<&str>) -> Option<(&str, &str, Option<&str>)>
+    ensures { option_map (λ p. (p.0.now, p.1.now, option_map (λ t. t.now) p.2)) result
+        ≡ claim_of (query_words (option_map (λ t. t.now) rest.entry)) }
+{
+    if is_logged(rest?) {
+        return None;
+    }
+    let (query, rest) = cut(rest?);
+    let (token, name) = token_and_name(rest)?;
+    Some((past_mark(query), token, name))
+}
+
+// Two words.
+#[tactic(auto, using(crate::proofs::Cuts::two_words_of))]
+fn two_words(rest: Option<&str>) -> Option<(&str, &str)>
+    ensures { option_map (λ p. (p.0.now, p.1.now)) result
+        ≡ two_of (words_behind (option_map (λ t. t.now) rest.entry)) }
+{
+    let (first, rest) = cut(rest?);
+    let second = one_word(rest)?;
+    Some((first, second))
 }
 
 // Two words, or three, of which the last is a host behind `at`, and the first of three a token.
@@ -260,22 +327,56 @@ fn fill(rest: Option<&str>) -> Question<'_>
     }
 }
 
-// A claim of what a token names.
+// A claim of what a token names, perhaps with a name.
 fn claim(rest: Option<&str>) -> Question<'_>
     ensures { asked_in result ≡ asks_claim (query_words (option_map (λ t. t.now) rest.entry)) }
 {
-    match query_and_word(rest) {
-        Some((query, token)) => Question::Claim { query, token },
+    match claimed(rest) {
+        Some((query, token, name)) => Question::Claim { query, token, name },
         None => Question::WrongNumber,
     }
 }
 
-// A release of what a token names.
-fn release(rest: Option<&str>) -> Question<'_>
-    ensures { asked_in result ≡ asks_release (query_words (option_map (λ t. t.now) rest.entry)) }
+// A release of what a name stands for.
+fn release_name(word: &str) -> Question<'_>
+    ensures { asked_in result ≡ asks (name_of word.now) release_name }
 {
+    match name(word) {
+        Some(name) => Question::ReleaseName { name },
+        None => Question::WrongNumber,
+    }
+}
+
+// A release of what a name stands for, or a token names.
+fn release(rest: Option<&str>) -> Question<'_>
+    ensures { asked_in result ≡ asks_release (option_map (λ t. t.now) rest.entry) }
+{
+    if let Some(word) = one_word(rest) {
+        return release_name(word);
+    }
     match query_and_word(rest) {
         Some((query, token)) => Question::Release { query, token },
+        None => Question::WrongNumber,
+    }
+}
+
+// A move of what a name stands for, to what a token names.
+fn move_name<'a>(word: &'a str, token: &'a str) -> Question<'a>
+    ensures { asked_in result ≡ asks (name_of word.now) (λ name. move name token.now) }
+{
+    match name(word) {
+        Some(name) => Question::Move { name, token },
+        None => Question::WrongNumber,
+    }
+}
+
+// A move, where both are told.
+fn move_to(rest: Option<&str>) -> Question<'_>
+    ensures { asked_in result
+        ≡ asks_move (words_behind (option_map (λ t. t.now) rest.entry)) }
+{
+    match two_words(rest) {
+        Some((word, token)) => move_name(word, token),
         None => Question::WrongNumber,
     }
 }
@@ -319,6 +420,7 @@ fn question_by_name<'a>(version: Version, name: &str, rest: Option<&'a str>) -> 
         "audit" => alone(job(Command::Audit { zone: None }, "", Version::V136), rest),
         "claim" => claim(rest),
         "release" => release(rest),
+        "move" => move_to(rest),
         "usages" => alone(Question::Usages, rest),
         "left" => left(rest),
         "help" => alone(Question::Help, rest),

@@ -13,6 +13,7 @@ ghost use Rattle.ac_run.specs.Tasks.{detail_shown};
 ghost use Rattle.ac_run.specs.Wanted.Given.{tables_in};
 ghost use Rattle.ac_session.specs.Escapes.{begun};
 ghost use Rattle.ac_session.specs.Frames.{lines_written};
+ghost use Rattle.ac_session.specs.Held.{held_of, unnamed};
 ghost use Rattle.ac_session.specs.Lines.{Given, most_passed};
 ghost use Rattle.ac_session.specs.Reading.{feed_in, given_by, left};
 ghost use Rattle.ac_session.specs.Sessions.{AreUnread, session_answer, session_answer_with};
@@ -28,7 +29,7 @@ ghost use Rattle.ac_tables.specs.declared.fault.Table.{Table};
 use crate::endings::{AnswerFault, Ending, end_answer};
 use crate::escaping::Escaping;
 use crate::lines::{Lines, Next};
-use crate::turns::answer_next;
+use crate::turns::{Held, answer_next};
 use ac_base::{Feed, Gathering, Sink, push_all};
 use ac_query::Version;
 use ac_run::{Inputs, Paths, Refusal, Refused, read_inputs, tell};
@@ -88,14 +89,14 @@ fn end_gathered<W: Sink + Drop>(
 // Answers what a reader of lines gave, and hands the answer on.
 fn hand_on<W: Sink + Drop>(
     alloc: Global,
-    cloud: &mut Cloud,
+    held: &mut Held,
     version: Version,
     tries: Option<u64>,
     next: Next<'_>,
     out: W,
 ) -> (Result<(), AnswerFault>, W)
     ensures answers { (given : Given) → given_by next.entry ≡ Some given
-        → Answers tries version (world_of cloud.old) given result.0 (world_of cloud.new)
+        → Answers tries version (held_of held.old) given result.0 (held_of held.new)
         (W.taken out) (W.taken result.1) }
     ensures failed { result.0 ≡ Err AnswerFault.WriteFailed
         → Rises (W.failures out) (W.failures result.1) }
@@ -105,7 +106,7 @@ fn hand_on<W: Sink + Drop>(
         return (Err(AnswerFault::NoMemory), out);
     };
     let mut frame = Escaping::new(Gathering::new(out, room));
-    match answer_next(alloc, cloud, version, tries, next, &mut frame) {
+    match answer_next(alloc, held, version, tries, next, &mut frame) {
         Ok(ending) => end_gathered(frame, &ending),
         Err(fault) => (Err(fault), frame.into_inner().into_inner()),
     }
@@ -114,7 +115,7 @@ fn hand_on<W: Sink + Drop>(
 // Reads a line, and answers it.
 fn answer_line<Q: Feed, W: Sink + Drop>(
     alloc: Global,
-    cloud: &mut Cloud,
+    held: &mut Held,
     version: Version,
     tries: Option<u64>,
     lines: &mut Lines<Q>,
@@ -122,13 +123,13 @@ fn answer_line<Q: Feed, W: Sink + Drop>(
 ) -> (Step, W)
     ensures stands { result.0 ≡ Step.Answered → (q : List ℕ)
         → left Q.remaining lines.old ≡ Some q → length q < most_passed
-        → Stands tries version (world_of cloud.old) q (W.taken out) (world_of cloud.new)
+        → Stands tries version (held_of held.old) q (W.taken out) (held_of held.new)
         (left Q.remaining lines.new) (W.taken result.1) 1 }
     ensures over { result.0 ≡ Step.AtEnd → (q : List ℕ) → left Q.remaining lines.old ≡ Some q
         → Appends (W.taken out) (W.taken result.1)
-        (session_text version (world_of cloud.old) (lines_in q)) }
+        (session_text version (held_of held.old) (lines_in q)) }
     ensures part { (q : List ℕ) → left Q.remaining lines.old ≡ Some q → length q < most_passed
-        → WithStops tries version (world_of cloud.old) q (λ text.
+        → WithStops tries version (held_of held.old) q (λ text.
         IsFirstPart (append_known (W.taken out) text) (W.taken result.1)) }
     ensures unread { result.0 ≡ Step.Stopped Stop.Questions
         → Rises (Q.failures (feed_in lines.old)) (Q.failures (feed_in lines.new)) }
@@ -141,7 +142,7 @@ fn answer_line<Q: Feed, W: Sink + Drop>(
     match next {
         Next::End => (Step::AtEnd, out),
         Next::Failed => (Step::Stopped(Stop::Questions), out),
-        _ => match hand_on(alloc, cloud, version, tries, next, out) {
+        _ => match hand_on(alloc, held, version, tries, next, out) {
             (Ok(()), out) => (Step::Answered, out),
             (Err(AnswerFault::WriteFailed), out) => (Step::Stopped(Stop::Output), out),
             (Err(AnswerFault::NoMemory), out) => (Step::Stopped(Stop::NoMemory), out),
@@ -152,17 +153,17 @@ fn answer_line<Q: Feed, W: Sink + Drop>(
 // Answers one line after another, up to their end.
 fn answer_lines<Q: Feed, W: Sink + Drop>(
     alloc: Global,
-    cloud: &mut Cloud,
+    held: &mut Held,
     version: Version,
     tries: Option<u64>,
     lines: &mut Lines<Q>,
     out: W,
 ) -> (Result<(), Stop>, W)
     ensures ok { OnOk result.0 ((q : List ℕ) → left Q.remaining lines.old ≡ Some q
-        → length q < most_passed → WithStops tries version (world_of cloud.old) q
+        → length q < most_passed → WithStops tries version (held_of held.old) q
         (Appends (W.taken out) (W.taken result.1))) }
     ensures part { (q : List ℕ) → left Q.remaining lines.old ≡ Some q → length q < most_passed
-        → WithStops tries version (world_of cloud.old) q (λ text.
+        → WithStops tries version (held_of held.old) q (λ text.
         IsFirstPart (append_known (W.taken out) text) (W.taken result.1)) }
     ensures unread { result.0 ≡ Err Stop.Questions
         → Rises (Q.failures (feed_in lines.old)) (Q.failures (feed_in lines.new)) }
@@ -171,7 +172,7 @@ fn answer_lines<Q: Feed, W: Sink + Drop>(
 {
     let mut out = out;
     'turns: for _ in 0..u64::MAX {
-        let (step, rest) = answer_line(alloc, cloud, version, tries, lines, out);
+        let (step, rest) = answer_line(alloc, held, version, tries, lines, out);
         out = rest;
         match step {
             Step::Answered => {}
@@ -215,11 +216,11 @@ fn hold<Q: Feed, W: Sink + Drop, E: Sink>(
         → (Rises (Q.failures (feed_in lines.old)) (Q.failures (feed_in lines.new)) → ⊥)
         → (Rises (W.failures out) (W.failures result.1) → ⊥)
         → (q : List ℕ) → left Q.remaining lines.old ≡ Some q → length q < most_passed
-        → WithStops tries version (world_of cloud) q (λ text. IsAnswered (written text 0)
+        → WithStops tries version (unnamed (world_of cloud)) q (λ text. IsAnswered (written text 0)
         (W.taken out) (W.taken result.1) (E.taken err.old) (E.taken err.new) result.0) }
     ensures written { result.0 ≡ 0
         → (q : List ℕ) → left Q.remaining lines.old ≡ Some q → length q < most_passed
-        → WithStops tries version (world_of cloud) q (λ text. IsAnswered (written text 0)
+        → WithStops tries version (unnamed (world_of cloud)) q (λ text. IsAnswered (written text 0)
         (W.taken out) (W.taken result.1) (E.taken err.old) (E.taken err.new) result.0) }
     ensures unread { result.0 ≡ 3
         → AreUnread (Rises (Q.failures (feed_in lines.old)) (Q.failures (feed_in lines.new)))
@@ -230,13 +231,13 @@ fn hold<Q: Feed, W: Sink + Drop, E: Sink>(
     ensures memory { result.0 ≡ 7 → TakesLine (E.taken err.old) (E.taken err.new)
         (E.failures err.old) (E.failures err.new) memory_line }
     ensures part { (q : List ℕ) → left Q.remaining lines.old ≡ Some q → length q < most_passed
-        → WithStops tries version (world_of cloud) q (λ text.
+        → WithStops tries version (unnamed (world_of cloud)) q (λ text.
         IsFirstPart (append_known (W.taken out) text) (W.taken result.1)) }
     ensures status { Contains (0 ∷ 3 ∷ 6 ∷ 7 ∷ []) result.0 }
     ensures err_failures { E.failures err.old ≤ E.failures err.new }
 {
-    let mut cloud = cloud;
-    match answer_lines(alloc, &mut cloud, version, tries, lines, out) {
+    let mut held = Held::new(alloc, cloud);
+    match answer_lines(alloc, &mut held, version, tries, lines, out) {
         (Ok(()), out) => (0, out),
         (Err(stop), out) => (tell_stop(alloc, err, stop), out),
     }
@@ -249,7 +250,7 @@ fn hold<Q: Feed, W: Sink + Drop, E: Sink>(
 /// and that ends with 8: nothing changes then, and the session goes on.
 ///
 /// 0: the questions are at their end; 3: a table or its reading refused, or the questions can't be read; 6: the output failed; 7: want of memory.
-/// With 3 to 7 a line on the error sink says so. Its memory doesn't grow with the number of questions.
+/// With 3 to 7 a line on the error sink says so. Its memory doesn't grow with the number of questions, but with that of the names that stand for a claim.
 pub fn run_session<R: Feed, Q: Feed, W: Sink + Drop, E: Sink>(
     alloc: Global,
     version: Version,
@@ -269,7 +270,7 @@ pub fn run_session<R: Feed, Q: Feed, W: Sink + Drop, E: Sink>(
         → (b : Bytes) → TellBytes R.remaining inputs.old b
         → (q : List ℕ) → left Q.remaining lines.old ≡ Some q → length q < most_passed
         → (stops : List (Option (List ℕ)))
-        × AreStops tries version (world_stated (tables_in b)) stops (lines_in q)
+        × AreStops tries version (unnamed (world_stated (tables_in b))) stops (lines_in q)
         × IsAnswered (session_answer_with (detail_shown detail.entry) version b stops q)
         (W.taken out) (W.taken result.1) (E.taken err.old) (E.taken err.new) result.0 }
 
@@ -288,7 +289,7 @@ pub fn run_session<R: Feed, Q: Feed, W: Sink + Drop, E: Sink>(
     ensures written_within { result.0 ≡ 0 → (b : Bytes) → TellBytes R.remaining inputs.old b
         → (q : List ℕ) → left Q.remaining lines.old ≡ Some q → length q < most_passed
         → (stops : List (Option (List ℕ)))
-        × AreStops tries version (world_stated (tables_in b)) stops (lines_in q)
+        × AreStops tries version (unnamed (world_stated (tables_in b))) stops (lines_in q)
         × IsAnswered (session_answer_with (detail_shown detail.entry) version b stops q)
         (W.taken out) (W.taken result.1) (E.taken err.old) (E.taken err.new) result.0 }
     ensures written { tries ≡ None → result.0 ≡ 0
@@ -315,7 +316,7 @@ pub fn run_session<R: Feed, Q: Feed, W: Sink + Drop, E: Sink>(
     ensures part_within { (b : Bytes) → TellBytes R.remaining inputs.old b
         → (q : List ℕ) → left Q.remaining lines.old ≡ Some q → length q < most_passed
         → (stops : List (Option (List ℕ)))
-        × AreStops tries version (world_stated (tables_in b)) stops (lines_in q)
+        × AreStops tries version (unnamed (world_stated (tables_in b))) stops (lines_in q)
         × IsFirstPart (append_known (W.taken out)
         (session_answer_with (detail_shown detail.entry) version b stops q).output)
         (W.taken result.1) }

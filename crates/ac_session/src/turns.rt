@@ -16,6 +16,9 @@ ghost use Rattle.ac_fill.specs.Shown.{IsTakenOf, with_taken};
 ghost use Rattle.ac_run.specs.Outputs.{counted, verdict_text};
 ghost use Rattle.ac_run.specs.Tasks.{task_of};
 ghost use Rattle.ac_search.specs.Shown.Walk.{MayStop};
+ghost use Rattle.ac_query.specs.Tokens.{token_fault};
+ghost use Rattle.ac_run.specs.Wanted.{ExplainsToken};
+ghost use Rattle.ac_session.specs.Held.{held_of};
 ghost use Rattle.ac_session.specs.Questions.{asked_in};
 ghost use Rattle.ac_session.specs.Standing.{Gives, IsRefusal, TakesTurn};
 ghost use Rattle.ac_session.specs.Helps.{help_text};
@@ -23,9 +26,13 @@ ghost use Rattle.ac_session.specs.LeftRows.{left_answer};
 ghost use Rattle.ac_session.specs.Lines.{Given};
 ghost use Rattle.ac_session.specs.Reading.{given_by};
 ghost use Rattle.ac_session.specs.Tries.{AskedMayStop, FillMayStop, GivenMayStop, JobMayStop};
-ghost use Rattle.ac_session.specs.Turns.{after_fill, claim_said, claim_turn, fill_turn, places_named, release_said, release_turn, settles, turn_asked, turn_of};
+ghost use Rattle.ac_session.specs.Turns.{after_fill, claim_said, claim_turn, fill_turn, move_said, move_turn, places_named, release_said, release_turn, settles, turn_asked, turn_of};
 ghost use Rattle.ac_session.specs.UsageRows.{usage_rows};
 ghost use Rattle.ac_session.specs.declared.endings.AnswerFault.TheVariants as AnswerFault;
+
+mod held;
+mod named;
+mod names;
 
 use crate::endings::{AnswerFault, Ending, broken_off, given, refused, write_said};
 use crate::help::push_help;
@@ -33,17 +40,19 @@ use crate::left::write_left;
 use crate::line_faults::LineFault;
 use crate::lines::Next;
 use crate::questions::{Question, read_question};
+use crate::turns::named::{answer_named_claim, answer_named_move, answer_named_release};
 use crate::usages::write_usages;
 use ac_base::{NoMemory, Sink};
 use ac_fill::{Filled, write_filled};
 use ac_query::{Query, Version};
 use ac_report::PageFault;
-use ac_rules::{InCloud, Verdict, claim, release};
+use ac_rules::{InCloud, Verdict, claim, release, relocate};
 use ac_run::{
     AskRefusal, Job, fill_status, push_verdict, read_query, read_token, read_wanted, write_answer,
 };
 use ac_search::Walk;
 use ac_tables::Cloud;
+pub(crate) use held::Held;
 use std::alloc::Global;
 
 // The answer to a job, of which each search may make so many tries.
@@ -62,6 +71,29 @@ fn answer_job<W: Sink>(
     match read_wanted(alloc, &job, cloud) {
         Ok(wanted) => given(write_answer(alloc, cloud, &wanted, tries, out)),
         Err(refusal) => refused(refusal),
+    }
+}
+
+// The places of the providers that a token of a query names, where each is there.
+fn read_places(
+    alloc: Global,
+    cloud: &Cloud,
+    query: &Query,
+    token: &str,
+) -> Result<Option<Vec<u32>>, AskRefusal>
+    ensures fine { OnOk result (token_fault (shown query.now) token.now ≡ None) }
+    ensures list { IfOk result (λ list. option_map (λ list. list.items) list
+        ≡ places_named (providers_of cloud.now) token.now) }
+    ensures slots { IfOk result (λ list. IfSome list (λ list.
+        length list.items ≡ length (slots_of (shown query.now)))) }
+    ensures providers { IfOk result (λ list. IfSome list (λ list.
+        All (λ p. p < length (providers_of cloud.now)) list.items)) }
+    ensures fault { IfErr result (ExplainsToken (token_fault (shown query.now) token.now)) }
+{
+    let token = read_token(alloc, token, query)?;
+    match token.locate(alloc, cloud) {
+        Ok(list) => Ok(list),
+        Err(NoMemory) => Err(AskRefusal::NoMemory),
     }
 }
 
@@ -88,11 +120,8 @@ fn read_assignment(
         → IsRefusal refusal (past_query say (Some token.now) version query.now)) }
 {
     let query = read_query(alloc, query, version)?;
-    let token = read_token(alloc, token, &query)?;
-    match token.locate(alloc, cloud) {
-        Ok(list) => Ok((query, list)),
-        Err(NoMemory) => Err(AskRefusal::NoMemory),
-    }
+    let list = read_places(alloc, cloud, &query, token)?;
+    Ok((query, list))
 }
 
 // The rule that a list breaks, as `verify` tells it.
@@ -124,6 +153,18 @@ fn write_released<W: Sink>(in_use: bool, out: &mut W) -> Result<Ending, AnswerFa
         write_said(out, b"released\n", 0)
     } else {
         write_said(out, b"not in use\n", 1)
+    }
+}
+
+// What a move says by the verdict: nothing of rules, where not so much is in use.
+fn write_moved<W: Sink>(verdict: Option<Verdict>, out: &mut W) -> Result<Ending, AnswerFault>
+    ensures { Gives ⊥ (Some (move_said verdict)) result
+        (W.taken out.old) (W.taken out.new) (W.failures out.old) (W.failures out.new) }
+{
+    match verdict {
+        Some(Verdict::Candidate) => write_said(out, b"moved\n", 0),
+        Some(verdict) => write_claimed(verdict, out),
+        None => write_released(false, out),
     }
 }
 
@@ -176,6 +217,41 @@ fn answer_release<W: Sink>(
         Some(list) => {
             let in_use = release(cloud, &query, &list);
             write_released(in_use, out)
+        }
+        None => write_said(out, b"unknown provider\n", 1),
+    }
+}
+
+// The answer to a move, which is made where all is in use and the other token is a candidate then.
+fn answer_move<W: Sink>(
+    alloc: Global,
+    cloud: &mut Cloud,
+    version: Version,
+    query: &str,
+    from: &str,
+    to: &str,
+    out: &mut W,
+) -> Result<Ending, AnswerFault>
+    ensures { TakesTurn ⊥ (world_of cloud.old)
+        (move_turn version query.now from.now to.now (world_of cloud.old)) result
+        (world_of cloud.new) (W.taken out.old) (W.taken out.new) (W.failures out.old)
+        (W.failures out.new) }
+{
+    let (query, from) = match read_assignment(alloc, cloud, version, query, from) {
+        Ok(read) => read,
+        Err(refusal) => return refused(refusal),
+    };
+    let to = match read_places(alloc, cloud, &query, to) {
+        Ok(to) => to,
+        Err(refusal) => return refused(refusal),
+    };
+    let Some(from) = from else {
+        return write_said(out, b"unknown provider\n", 1);
+    };
+    match to {
+        Some(to) => {
+            let verdict = relocate(cloud, &query, &from, &to);
+            write_moved(verdict, out)
         }
         None => write_said(out, b"unknown provider\n", 1),
     }
@@ -310,28 +386,40 @@ fn answer_help<W: Sink>(out: &mut W) -> Result<Ending, AnswerFault>
     Ok(Ending::Given(0))
 }
 
-// Answers a question, and changes the cloud where it is a claim, a release or placements.
+// Answers a question, and changes the cloud where it is a claim, a release, a move or placements.
 fn answer_question<W: Sink>(
     alloc: Global,
-    cloud: &mut Cloud,
+    held: &mut Held,
     version: Version,
     tries: Option<u64>,
     question: Question<'_>,
     out: &mut W,
 ) -> Result<Ending, AnswerFault>
     ensures { TakesTurn
-        (AskedMayStop tries version (world_of cloud.old) (asked_in question.entry))
-        (world_of cloud.old) (turn_asked version (world_of cloud.old) (asked_in question.entry))
-        result (world_of cloud.new) (W.taken out.old) (W.taken out.new) (W.failures out.old)
+        (AskedMayStop tries version (held_of held.old).world (asked_in question.entry))
+        (held_of held.old) (turn_asked version (held_of held.old) (asked_in question.entry))
+        result (held_of held.new) (W.taken out.old) (W.taken out.new) (W.failures out.old)
         (W.failures out.new) }
 {
+    let cloud = &mut held.cloud;
     match question {
         Question::Job(job) => answer_job(alloc, cloud, job, tries, out),
         Question::Fill { query } => answer_fill(alloc, cloud, version, query, tries, out),
-        Question::Claim { query, token } => answer_claim(alloc, cloud, version, query, token, out),
+        Question::Claim {
+            query,
+            token,
+            name: None,
+        } => answer_claim(alloc, cloud, version, query, token, out),
+        Question::Claim {
+            query,
+            token,
+            name: Some(name),
+        } => answer_named_claim(alloc, held, version, query, token, name, out),
         Question::Release { query, token } => {
             answer_release(alloc, cloud, version, query, token, out)
         }
+        Question::ReleaseName { name } => answer_named_release(alloc, held, version, name, out),
+        Question::Move { name, token } => answer_named_move(alloc, held, version, name, token, out),
         Question::Usages => answer_usages(alloc, cloud, out),
         Question::Left { host } => answer_left(alloc, cloud, host, out),
         Question::Help => answer_help(out),
@@ -346,16 +434,16 @@ fn answer_question<W: Sink>(
 #[tactic(auto, unfolding(crate::specs::Turns::turn_of, crate::specs::Tries::GivenMayStop))]
 pub(crate) fn answer_next<W: Sink>(
     alloc: Global,
-    cloud: &mut Cloud,
+    held: &mut Held,
     version: Version,
     tries: Option<u64>,
     next: Next<'_>,
     out: &mut W,
 ) -> Result<Ending, AnswerFault>
     ensures turn { (given : Given) → given_by next.entry ≡ Some given
-        → TakesTurn (GivenMayStop tries version (world_of cloud.old) given)
-        (world_of cloud.old) (turn_of version (world_of cloud.old) given) result
-        (world_of cloud.new) (W.taken out.old) (W.taken out.new) (W.failures out.old)
+        → TakesTurn (GivenMayStop tries version (held_of held.old).world given)
+        (held_of held.old) (turn_of version (held_of held.old) given) result
+        (held_of held.new) (W.taken out.old) (W.taken out.new) (W.failures out.old)
         (W.failures out.new) }
     ensures failed { result ≡ Err AnswerFault.WriteFailed
         → Rises (W.failures out.old) (W.failures out.new) }
@@ -365,7 +453,7 @@ pub(crate) fn answer_next<W: Sink>(
         Next::Line(line) => {
             answer_question(
                 alloc,
-                cloud,
+                held,
                 version,
                 tries,
                 read_question(line, version),

@@ -18,7 +18,7 @@ use Rattle.clap.proofs.OnLiterals.{clap_on_literals}
 use Rattle.ac_run.specs.Tasks.{Command, verify, why}
 use Rattle.ac_run.specs.Wanted.Mark.{past_mark}
 use Rattle.ac_words.specs.Names.{name_read}
-use Rattle.ac_words.specs.Words.{asking, call_of, command_found, is_complete, job, named, plan, program}
+use Rattle.ac_words.specs.Words.{asking, asking_beside, beside, call_of, command_found, is_complete, job, named, plan, program}
 use Rattle.ac_words.specs.declared.name.Name.{Name}
 use Rattle.ac_words.specs.declared.name.Name.TheVariants as name
 use Rattle.ac_words.proofs.FilledRows.{Filled, HasValue, asks_or_takes, first_free, then_free}
@@ -106,6 +106,7 @@ needs_words name.Check s = true
 needs_words name.Verify s = needs (codes "query") s && needs (codes "token") s
 needs_words name.Why s = needs (codes "query") s && needs (codes "host") s
 needs_words name.Capacity s = needs (codes "flavors") s
+needs_words name.Compare s = needs (codes "query") s && needs (codes "answer") s
 needs_words name.Audit s = true
 needs_words name.Session s = true
 needs_words _ s = needs (codes "query") s
@@ -145,6 +146,17 @@ module _ (s : Shape) (words : List Text) (kept : list_all asks_or_takes s.rules 
       by_word (Some word) h asked = asked word
       by_word None h asked = h
 
+  answer-given : (needs (codes "query") s && needs (codes "answer") s) ≡ true → is_some (option_and_then (asking_beside rows) (first_of (codes "answer") rows)) ≡ true
+  answer-given n =
+      let parts = and_parts (needs (codes "query") s) (needs (codes "answer") s) n in
+      by_word (first_of (codes "answer") rows) (first_of (codes "query") rows) (level-entry s words (codes "answer") kept parts.1 e) (level-entry s words (codes "query") kept parts.0 e)
+    where
+      by_word : (path query : Option Text) → is_some path ≡ true → is_some query ≡ true
+          → is_some (option_and_then (λ path. option_map (λ query. beside path (past_mark query)) query) path) ≡ true
+      by_word (Some path) (Some query) h k = refl
+      by_word (Some path) None h k = k
+      by_word None query h k = h
+
   flavors-given : (o : Option Text) (metrics : Bool) → is_some o ≡ true → is_some (option_map (λ path. plan path metrics) o) ≡ true
   flavors-given (Some text) metrics h = refl
   flavors-given None metrics h = h
@@ -161,6 +173,7 @@ module _ (s : Shape) (words : List Text) (kept : list_all asks_or_takes s.rules 
   words-given name.Hosts n = query-given _ n
   words-given name.Why n = both-given (codes "host") why n
   words-given name.Audit n = refl
+  words-given name.Compare n = answer-given n
   words-given name.Capacity n = flavors-given (first_of (codes "flavors") rows) _ (level-entry s words (codes "flavors") kept n e)
   words-given name.Session n = refl
 

@@ -16,12 +16,14 @@ name_text name.Explain = codes "explain"
 name_text name.Hosts = codes "hosts"
 name_text name.Why = codes "why"
 name_text name.Capacity = codes "capacity"
+name_text name.Compare = codes "compare"
 name_text name.Audit = codes "audit"
 name_text name.Session = codes "session"
 
 abbrev pub all_names : List Name
 all_names =
-    name.Check ∷ name.Candidates ∷ name.Tokens ∷ name.List ∷ name.Fill ∷ name.Verify ∷ name.Explain ∷ name.Hosts ∷ name.Why ∷ name.Capacity ∷ name.Audit ∷ name.Session ∷ []
+    name.Check ∷ name.Candidates ∷ name.Tokens ∷ name.List ∷ name.Fill ∷ name.Verify ∷ name.Explain ∷ name.Hosts ∷ name.Why ∷ name.Capacity ∷ name.Compare ∷ name.Audit
+    ∷ name.Session ∷ []
 
 -- the name that is written so, where it is one
 unfoldable pub name_read : List ℕ → Option Name

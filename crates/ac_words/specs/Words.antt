@@ -14,7 +14,7 @@ use Rattle.clap.specs.declared.error.kind.ErrorKind.TheVariants.{ArgumentConflic
 use Rattle.ac_base.specs.Texts.{count_value, id_value}
 use Rattle.ac_query.specs.declared.version.Version.{Version}
 use Rattle.ac_query.specs.declared.version.Version.TheVariants.{V136, V139}
-use Rattle.ac_run.specs.Tasks.{Command, Paths, Task, check, candidates, tokens, list, fill, verify, explain, hosts, why, capacity, audit, command_shown}
+use Rattle.ac_run.specs.Tasks.{Command, Paths, Task, check, candidates, tokens, list, fill, verify, explain, hosts, why, capacity, compare, audit, command_shown}
 use Rattle.ac_tables.specs.Tables.Names.{table_name}
 use Rattle.ac_tables.specs.declared.fault.Table.{Table}
 use Rattle.ac_tables.specs.declared.fault.Table.TheVariants.{Providers, Inventories, Usages, Traits, Aggregates}
@@ -104,6 +104,10 @@ why_app = with_tries (with_rule (query_app (codes "why")) (word_rule (codes "hos
 abbrev pub capacity_app : App
 capacity_app = with_rule (with_tries (with_rule (new_app (codes "capacity")) (word_rule (codes "flavors")))) (flag_rule (codes "prometheus"))
 
+-- a query, with an answer of the service
+abbrev pub compare_app : App
+compare_app = with_tries (with_rule (query_app (codes "compare")) (word_rule (codes "answer")))
+
 abbrev pub audit_app : App
 audit_app = with_rule (with_common (new_app (codes "audit"))) (option_rule (codes "zone"))
 
@@ -123,6 +127,7 @@ app_for name.Explain = explain_app
 app_for name.Hosts = hosts_app
 app_for name.Why = why_app
 app_for name.Capacity = capacity_app
+app_for name.Compare = compare_app
 app_for name.Audit = audit_app
 app_for name.Session = session_app
 
@@ -132,9 +137,9 @@ as_program app = record app { top = record app.top { has_version = true; subcomm
 
 abbrev pub program : App
 program =
-    with_subcommand (with_subcommand (with_subcommand (with_subcommand (with_subcommand (with_subcommand (with_subcommand (with_subcommand (with_subcommand
+    with_subcommand (with_subcommand (with_subcommand (with_subcommand (with_subcommand (with_subcommand (with_subcommand (with_subcommand (with_subcommand (with_subcommand
     (with_subcommand (with_subcommand (with_subcommand (as_program (new_app (codes "ac_cli"))) check_app.top) candidates_app.top) tokens_app.top) list_app.top)
-    fill_app.top) verify_app.top) explain_app.top) hosts_app.top) why_app.top) capacity_app.top) audit_app.top) session_app.top
+    fill_app.top) verify_app.top) explain_app.top) hosts_app.top) why_app.top) capacity_app.top) compare_app.top) audit_app.top) session_app.top
 
 -- ---- what it states of the words
 
@@ -250,10 +255,11 @@ faults words = or_else (fault_of program words) (own_faults (named words))
 -- ---- what is made of it
 
 -- what the words of a command line call for: a command with its query, which is empty where it asks for none; the table of flavors at a path, as rows or as
--- metrics; or a session, whose questions are read later
+-- metrics; the answer of the service at a path, with its query; or a session, whose questions are read later
 pub data Call : Type 0 where
   job : Command → Text → Call
   plan : Text → Bool → Call
+  beside : Text → Text → Call
   session : Call
 
 -- what the words of a command line say
@@ -264,17 +270,24 @@ pub record Line : Type 0 where
   pub detail : Bool
   pub paths : Paths
 
--- the path of the table of flavors, where they ask for one
-abbrev pub flavors_called : Call → Option Text
-flavors_called (plan path metrics) = Some path
-flavors_called _ = None
+-- the path of the file that is read beside the tables, where they ask for one: a table of flavors, or an answer of the service
+abbrev pub file_called : Call → Option Text
+file_called (plan path metrics) = Some path
+file_called (beside path query) = Some path
+file_called _ = None
 
--- the task that they ask for, with this text of the table of flavors, and with these paths where more is told; none where they ask for a session
+-- whether it is an answer of the service
+abbrev pub calls_answer : Call → Bool
+calls_answer (beside path query) = true
+calls_answer _ = false
+
+-- the task that they ask for, with these bytes of that file, and with these paths where more is told; none where they ask for a session
 abbrev pub task_in : Line → Text → Option Paths → Option Task
-task_in line flavors detail = task_called line.call
+task_in line file detail = task_called line.call
   where
     task_called : Call → Option Task
-    task_called (plan path metrics) = Some (record { command = capacity flavors metrics; query = []; version = line.version; tries = line.tries; detail = detail })
+    task_called (plan path metrics) = Some (record { command = capacity file metrics; query = []; version = line.version; tries = line.tries; detail = detail })
+    task_called (beside path query) = Some (record { command = compare file; query = query; version = line.version; tries = line.tries; detail = detail })
     task_called (job command query) = Some (record { command = command; query = query; version = line.version; tries = line.tries; detail = detail })
     task_called session = None
 
@@ -298,6 +311,10 @@ traits_of rows = not (is_set (first_of (codes "no-traits") rows))
 abbrev pub sum_of : List Row → Bool
 sum_of rows = is_set (first_of (codes "sum") rows)
 
+-- an answer of the service, with its query, without the path of a URL before it
+abbrev pub asking_beside : List Row → Text → Option Call
+asking_beside rows path = option_map (λ query. beside path (past_mark query)) (first_of (codes "query") rows)
+
 -- what the entries of a command call for; none where one that it needs isn't there
 unfoldable pub call_of : Name → List Row → Option Call
 call_of name.Check rows = Some (job check [])
@@ -310,6 +327,7 @@ call_of name.Explain rows = asking rows explain
 call_of name.Hosts rows = asking rows (hosts (sum_of rows) (within_in rows))
 call_of name.Why rows = option_and_then (λ host. asking rows (why host)) (first_of (codes "host") rows)
 call_of name.Capacity rows = option_map (λ path. plan path (is_set (first_of (codes "prometheus") rows))) (first_of (codes "flavors") rows)
+call_of name.Compare rows = option_and_then (asking_beside rows) (first_of (codes "answer") rows)
 call_of name.Audit rows = Some (job (audit (first_of (codes "zone") rows)) [])
 call_of name.Session rows = Some session
 
@@ -380,6 +398,7 @@ Tells kinds NoMemory = ⊤
 abbrev pub call_shown : rust.Call → Call
 call_shown (variant.Job command query) = job (command_shown command) query.now
 call_shown (variant.Plan flavors metrics) = plan flavors.now metrics
+call_shown (variant.Beside path query) = beside path.now query.now
 call_shown variant.Session = session
 
 abbrev pub paths_kept : FiveTables (String Global) → Paths

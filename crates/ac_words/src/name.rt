@@ -15,11 +15,12 @@ pub enum Name {
     Hosts,
     Why,
     Capacity,
+    Compare,
     Audit,
     Session,
 }
 
-const ALL_NAMES: [Name; 12] = [
+const ALL_NAMES: [Name; 13] = [
     Name::Check,
     Name::Candidates,
     Name::Tokens,
@@ -30,6 +31,7 @@ const ALL_NAMES: [Name; 12] = [
     Name::Hosts,
     Name::Why,
     Name::Capacity,
+    Name::Compare,
     Name::Audit,
     Name::Session,
 ];
@@ -50,6 +52,7 @@ impl Name {
             Name::Hosts => "hosts",
             Name::Why => "why",
             Name::Capacity => "capacity",
+            Name::Compare => "compare",
             Name::Audit => "audit",
             Name::Session => "session",
         }

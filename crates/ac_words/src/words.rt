@@ -2,7 +2,7 @@
 ghost use Rattle.std.specs.Prelude.{◌≡◌, IfErr, IfOk, IsTrue, OnOk, [], map, option_map, string_bytes};
 ghost use Rattle.ac_run.specs.Tasks.{detail_shown, paths_shown, task_of};
 ghost use Rattle.ac_tables.specs.FiveTables.{table_in};
-ghost use Rattle.ac_words.specs.Words.{Line, Says, Tells, call_shown, faults, flavors_called, is_taken, named, paths_kept, task_in};
+ghost use Rattle.ac_words.specs.Words.{Line, Says, Tells, call_shown, calls_answer, faults, file_called, is_taken, named, paths_kept, task_in};
 ghost use Rattle.clap.specs.Words.{HasKind, Kinds};
 ghost use Rattle.ac_words.specs.declared.words.WordFault.TheVariants.{NoMemory};
 
@@ -25,6 +25,8 @@ enum Call<'a> {
     Job(Command<'a>, &'a str),
     // The table of flavors at a path, and whether metrics are written of it.
     Plan(&'a str, bool),
+    // The answer of the service at a path, and its query.
+    Beside(&'a str, &'a str),
     // A session, whose questions are read later.
     Session,
 }
@@ -52,15 +54,19 @@ impl<'a> Model for Words<'a> {
 }
 
 impl<'a> Words<'a> {
-    /// The job that the words ask for, with this text of the table of flavors, and with these paths where more is told; none where they ask for a
-    /// session.
-    pub fn job<'b>(&'b self, flavors: &'b [u8], detail: Option<&'b Paths<'b>>) -> Option<Job<'b>>
+    /// The job that the words ask for, with these bytes of the file that is read beside the tables, and with these paths where more is told; none where they
+    /// ask for a session.
+    pub fn job<'b>(&'b self, file: &'b [u8], detail: Option<&'b Paths<'b>>) -> Option<Job<'b>>
         ensures { option_map task_of result
-            ≡ task_in self.now flavors.now (detail_shown detail.entry) }
+            ≡ task_in self.now file.now (detail_shown detail.entry) }
     {
         let (command, query) = match self.call {
             Call::Job(command, query) => (command, query),
-            Call::Plan(_, metrics) => (Command::Capacity { flavors, metrics }, ""),
+            Call::Plan(_, metrics) => {
+                let flavors = file;
+                (Command::Capacity { flavors, metrics }, "")
+            }
+            Call::Beside(_, query) => (Command::Compare { answer: file }, query),
             Call::Session => return None,
         };
         Some(Job {
@@ -72,13 +78,23 @@ impl<'a> Words<'a> {
         })
     }
 
-    /// The path of the table of flavors, where the words ask for one.
-    pub fn flavors(&self) -> Option<&str>
-        ensures { option_map (λ path. path.now) result ≡ flavors_called self.now.call }
+    /// The path of the file that is read beside the tables, where the words ask for one: a table of flavors, or an answer of the service.
+    pub fn file(&self) -> Option<&str>
+        ensures { option_map (λ path. path.now) result ≡ file_called self.now.call }
     {
         match self.call {
-            Call::Plan(path, _) => Some(path),
+            Call::Plan(path, _) | Call::Beside(path, _) => Some(path),
             _ => None,
+        }
+    }
+
+    /// Whether it is an answer of the service.
+    pub fn has_answer(&self) -> bool
+        ensures { result ≡ calls_answer self.now.call }
+    {
+        match self.call {
+            Call::Beside(..) => true,
+            _ => false,
         }
     }
 

@@ -1,5 +1,5 @@
 -- What claims take, need by need and slot by slot.
-use Rattle.std.proofs.Common.{◌≡◌, ◌∙◌, ◌<◌, ◌≤◌, ◌+◌, ◌==◌, ◌≢◌, ℕ, true, false, List, [], ◌∷◌, drop, length, Option, None, Some, refl, sym, ap, ap₂, arith, inl, inr, slice_index, slice_index_or, option_map, unwrap_or}
+use Rattle.std.proofs.Common.{◌≡◌, ◌∙◌, ◌<◌, ◌≤◌, ◌+◌, ◌-◌, ◌==◌, ◌&&◌, ◌≢◌, ℕ, nat_le, true, false, List, [], ◌∷◌, drop, length, Option, None, Some, refl, sym, ap, ap₂, arith, inl, inr, slice_index, slice_index_or, option_map, unwrap_or}
 use Rattle.std.specs.List.Sorted.{IsStrictlySortedBy}
 use Rattle.std.specs.Map.{keys_of}
 use Rattle.std.specs.Str.{bytes_eq}
@@ -17,12 +17,12 @@ use Rattle.ac_rules.specs.Claims.{claimed, released}
 use Rattle.ac_rules.specs.Judge.{judge, is_candidate}
 use Rattle.ac_rules.specs.Placed.{Placed, assigned, placed, no_slot}
 use Rattle.ac_rules.specs.Together.{sum_on, has_room, sums}
-use Rattle.ac_rules.specs.Shown.Changes.{asked_of_one, changed, used_after}
+use Rattle.ac_rules.specs.Shown.Changes.{asked_of_one, changed, is_counted_in_use, is_counted_sum, used_after, uses_counted_sums}
 use Rattle.ac_rules.specs.declared.claims.Change.{Change}
-use Rattle.ac_rules.specs.declared.claims.Change.TheVariants.{Claim, Release}
+use Rattle.ac_rules.specs.declared.claims.Change.TheVariants.{Claim, Release, Restore}
 use Rattle.ac_rules.specs.declared.verdict.Verdict.TheVariants.{Candidate}
 use Rattle.ac_rules.proofs.EachSlot.FrontLemmas.{candidate_opens}
-use Rattle.ac_rules.proofs.EachSlot.FullLemmas.{full_from}
+use Rattle.ac_rules.proofs.EachSlot.FullLemmas.{asked_from, full_from}
 use Rattle.ac_rules.proofs.EachSlot.JudgeLemmas.{judged_candidate}
 use Rattle.ac_rules.proofs.PlacedLemmas.{placed_more}
 
@@ -31,10 +31,12 @@ use Rattle.ac_rules.proofs.PlacedLemmas.{placed_more}
 used_again : (change : Change) (a b : ℕ) (had : UsedInventory) → used_after change b (record had { used = used_after change a had }) ≡ used_after change (a + b) had
 used_again Claim a b had = omega arith
 used_again Release a b had = omega arith
+used_again Restore a b had = omega arith
 
 used_none : (change : Change) (had : UsedInventory) → used_after change 0 had ≡ had.used
 used_none Claim had = omega arith
 used_none Release had = omega arith
+used_none Restore had = omega arith
 
 pub changed_size : (change : Change) (f : ℕ → List ℕ → ℕ) (all : List Provider) → length (changed change f all) ≡ length all
 unfolding changed
@@ -163,6 +165,12 @@ set_here change all place need rise class inventory used amount result same ther
 
 -- ---- all needs
 
+restored : (had : UsedInventory) (sum : ℕ) → nat_le sum had.used && nat_le had.used 18446744073709551615 ≡ true → used_after Restore sum (record had { used = had.used - sum }) ≡ had.used
+restored had sum h =
+    let within : nat_le sum had.used ≡ true = grind arith in
+    let counted : nat_le had.used 18446744073709551615 ≡ true = grind arith in
+    grind (arith, nat_tests)
+
 within_room : (had : UsedInventory) (sum : ℕ) → has_room (Some had.inventory) had.used sum ≡ true → had.used + sum ≤ capacity had.inventory
 within_room had sum h = grind (arith, nat_tests)
 
@@ -184,6 +192,25 @@ pub release_is : (all : List Provider) (xs : List Placed) → changed Release (s
 unfolding changed released
 release_is all xs = refl
 
+pub released_size : (all : List Provider) (xs : List Placed) → length (released all xs) ≡ length all
+unfolding released
+released_size all xs = amounts_size (λ ix class had. had.used - sum_on xs ix class) all
+
 pub candidate_sums : (all : List Provider) (asked : Asked) (list : List ℕ) → judge all asked list ≡ Candidate → sums all (assigned asked list) ≡ true
 unfolding is_candidate
 candidate_sums all asked list h = (candidate_opens all asked (assigned asked list) (judged_candidate all asked list h)).sums
+
+-- what is in use and given back can be taken again
+pub restore_is : (all : List Provider) (xs : List Placed) → ((ix : ℕ) → ix < length all → IsStrictlySortedBy text_cmp (keys_of (provider_at all ix).entries))
+    → is_counted_in_use all xs ≡ true → changed Restore (sum_on xs) (released all xs) ≡ all
+unfolding changed released is_counted_in_use uses_counted_sums
+restore_is all xs rise h =
+    amounts_again (λ ix class had. had.used - sum_on xs ix class) (λ ix class had. used_after Restore (sum_on xs ix class) had) all
+    ∙ amounts_same_found (λ ix class had. used_after Restore (sum_on xs ix class) (record had { used = had.used - sum_on xs ix class })) (λ ix class had. had.used) all rise
+    (λ ix class had inside there. elim (cases_lt 0 (sum_on xs ix class)) [
+      | inl some ↦
+          let within : is_counted_sum all xs ix class ≡ true = asked_from (is_counted_sum all xs) xs h ix class some in
+          restored had (sum_on xs ix class) (rw there at within)
+      | inr none ↦ omega (arith, none)
+    ])
+    ∙ amounts_kept all

@@ -18,16 +18,16 @@ at_class f (need ∷ needs) c h k = elim (cases_Bool (bytes_eq need.0 c)) [
   | inr e ↦ grind (arith, at_class f needs c)
 ]
 
--- a slot's own classes
-slot_full : (all : List Provider) (xs : List Placed) (x : Placed) (c : List ℕ) → holds_sums all xs x ≡ true → 0 < amount_of x.slot.needs c
-    → holds (provider_at all x.provider) c (sum_on xs x.provider c) ≡ true
-unfolding holds_sums
-slot_full all xs x c h k = at_class (λ c. holds (provider_at all x.provider) c (sum_on xs x.provider c)) x.slot.needs c h k
+-- and of each class of each provider of which slots ask
+pub asked_from : (test : ℕ → List ℕ → Bool) (ys : List Placed) → list_all (λ y. list_all (λ need. test y.provider need.0) y.slot.needs) ys ≡ true
+    → (p : ℕ) (c : List ℕ) → 0 < sum_on ys p c → test p c ≡ true
+asked_from test [] h p c k = absurd (omega arith)
+asked_from test (y ∷ ys) h p c k = grind (arith, nat_tests, at_class (test y.provider) y.slot.needs c, asked_from test ys, p)
 
 pub full_from : (all : List Provider) (xs ys : List Placed) → list_all (λ x. holds_sums all xs x) ys ≡ true → (p : ℕ) (c : List ℕ) → 0 < sum_on ys p c
     → holds (provider_at all p) c (sum_on xs p c) ≡ true
-full_from all xs [] h p c k = absurd (omega arith)
-full_from all xs (y ∷ ys) h p c k = grind (arith, nat_tests, slot_full all xs y c, full_from all xs ys, p)
+unfolding holds_sums
+full_from all xs ys h p c k = asked_from (λ p c. holds (provider_at all p) c (sum_on xs p c)) ys h p c k
 
 needs_from : (all : List Provider) (xs : List Placed) (p : ℕ) → IsFull all xs → (needs : List (List ℕ × ℕ)) → AllByRecursion (λ need. 0 < need.1) needs
     → ((c : List ℕ) → amount_of needs c ≤ sum_on xs p c) → list_all (λ need. holds (provider_at all p) need.0 (sum_on xs p need.0)) needs ≡ true

@@ -8,6 +8,7 @@ ghost use Rattle.ac_cloud.specs.Cloud.CloudWorld.{providers_of};
 ghost use Rattle.ac_query.specs.Shown.Groups.{need_entry};
 ghost use Rattle.ac_rules.specs.Claims.{uses_sums, is_in_use};
 ghost use Rattle.ac_rules.specs.Own.{inventory_of};
+ghost use Rattle.ac_rules.specs.Shown.Changes.{is_counted_in_use, is_counted_sum, uses_counted_sums};
 ghost use Rattle.ac_rules.specs.Room.{room_in, less};
 ghost use Rattle.ac_rules.specs.Together.{amount_of, sum_on, holds, holds_sums, sums};
 
@@ -138,22 +139,39 @@ impl<'a> Assignment<'a> {
         self.slots().all(|placed| self.has_room_at(&placed))
     }
 
-    // Whether of the provider of a slot as much is used, in the slot's classes, as all slots ask of it.
-    #[tactic(auto, unfolding(crate::specs::Claims::uses_sums))]
-    fn uses_sums(&self, placed: &Placed<'a>) -> bool
-        ensures { result ≡ uses_sums (providers_of placed.now.cloud.now) (assigned_of self.now)
-            (placed_of placed.now) }
+    // Whether of the provider of a slot as much of a class is used as all slots ask of it.
+    fn uses_sum(&self, placed: &Placed<'a>, class: &ClassName) -> bool
+        ensures uses { result
+            ≡ nat_le (sum_on (assigned_of self.now) placed.now.provider (class_bytes class.now))
+            (used_of (provider_at (providers_of placed.now.cloud.now) placed.now.provider)
+            (class_bytes class.now)) }
+        ensures counted { result
+            ≡ is_counted_sum (providers_of placed.now.cloud.now) (assigned_of self.now)
+            placed.now.provider (class_bytes class.now) }
     {
-        placed.needs().iter().all(|need| {
-            let used = placed.its_provider().used(need.class());
-            self.suffices(used, placed.provider, need.class())
-        })
+        let used = placed.its_provider().used(class);
+        self.suffices(used, placed.provider, class)
+    }
+
+    // Whether of the provider of a slot as much is used, in the slot's classes, as all slots ask of it.
+    fn uses_sums(&self, placed: &Placed<'a>) -> bool
+        ensures uses { result ≡ uses_sums (providers_of placed.now.cloud.now)
+            (assigned_of self.now) (placed_of placed.now) }
+        ensures counted { result ≡ uses_counted_sums (providers_of placed.now.cloud.now)
+            (assigned_of self.now) (placed_of placed.now) }
+    {
+        placed
+            .needs()
+            .iter()
+            .all(|need| self.uses_sum(placed, need.class()))
     }
 
     /// Whether of each provider as much is used as all slots ask of it.
-    #[tactic(auto, unfolding(crate::specs::Claims::is_in_use))]
     pub(crate) fn is_in_use(&self) -> bool
-        ensures { result ≡ is_in_use (providers_of self.now.cloud.now) (assigned_of self.now) }
+        ensures in_use { result ≡ is_in_use (providers_of self.now.cloud.now)
+            (assigned_of self.now) }
+        ensures counted { result ≡ is_counted_in_use (providers_of self.now.cloud.now)
+            (assigned_of self.now) }
     {
         self.slots().all(|placed| self.uses_sums(&placed))
     }

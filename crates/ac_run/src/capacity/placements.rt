@@ -7,7 +7,9 @@ ghost use Rattle.ac_fill.specs.Filled.{asks_units};
 ghost use Rattle.ac_fill.specs.Found.{short_entry};
 ghost use Rattle.ac_prune.specs.Fitting.{fitting};
 ghost use Rattle.ac_query.specs.Shown.Queries.{asked_of};
+ghost use Rattle.ac_report.specs.Pages.{IsAssignment};
 ghost use Rattle.ac_rules.specs.Pages.{rest};
+ghost use Rattle.std.specs.List.{All};
 ghost use Rattle.ac_run.specs.Answer.{fills};
 ghost use Rattle.ac_run.specs.Capacity.{placed_first};
 ghost use Rattle.ac_run.specs.Outputs.{counted, fill_status};
@@ -32,8 +34,8 @@ pub fn fill_status(limit: Option<u32>, count: u32) -> u8
     if count >= limit.unwrap_or(1) { 0 } else { 1 }
 }
 
-// All candidates of a query, in so many tries.
-fn walk_all<'a>(
+/// All candidates of a query, in so many tries.
+pub(crate) fn walk_all<'a>(
     alloc: Global,
     cloud: &'a Cloud,
     query: &'a Query,
@@ -41,6 +43,8 @@ fn walk_all<'a>(
 ) -> Result<Walk<'a>, NoMemory>
     ensures left { IfOk result (λ walk. ⟦<Walk<'a> as Source>⟧.left walk
         ≡ rest (providers_of cloud.now) (asked_of query.now) None) }
+    ensures assigned { IfOk result (λ walk. All (IsAssignment (providers_of cloud.now)
+        (asked_of query.now)) (⟦<Walk<'a> as Source>⟧.left walk)) }
     ensures stops { IfOk result (λ walk. ⟦<Walk<'a> as Source>⟧.may_stop walk
         → MayStop tries (providers_of cloud.now) (asked_of query.now) None) }
 {

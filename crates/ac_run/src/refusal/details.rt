@@ -1,6 +1,6 @@
 //! What stands behind the line of a refusal where more is told: what is to be done.
 ghost use Rattle.std.specs.Prelude.{◌≡◌, IfOk, None};
-ghost use Rattle.ac_run.specs.Details.{asked_remedy, behind, fault_remedy, path_in, reading_remedy};
+ghost use Rattle.ac_run.specs.Details.{answer_remedy, asked_remedy, behind, fault_remedy, path_in, reading_remedy};
 ghost use Rattle.ac_run.specs.Flavors.{why_shown};
 ghost use Rattle.ac_run.specs.Feeds.Draining.{texts_shown};
 ghost use Rattle.ac_run.specs.Feeds.{too_large};
@@ -12,7 +12,7 @@ use crate::inputs::Texts;
 use crate::job::{Job, Paths};
 use crate::ready::sources_of;
 use crate::refusal::lines::push_query_line;
-use crate::refusal::{AskRefusal, FlavorsRefusal, TablesRefusal};
+use crate::refusal::{AnswerRefusal, AskRefusal, FlavorsRefusal, TablesRefusal};
 use ac_base::ToWrite;
 use ac_query::{Query, TokenFault};
 use ac_remedies::{
@@ -99,6 +99,20 @@ fn flavors_detail(alloc: Global, refusal: &FlavorsRefusal) -> Result<Vec<u8>, Al
     Ok(text.into_inner())
 }
 
+// Of an answer of the service.
+#[tactic(auto, unfolding(crate::specs::Details::answer_remedy))]
+fn answer_detail(alloc: Global, refusal: AnswerRefusal) -> Result<Vec<u8>, AllocError>
+    ensures text { IfOk result (λ text. text.items ≡ answer_remedy refusal) }
+{
+    match refusal {
+        AnswerRefusal::BadAnswer =>
+            b"It is to be the body that the service answers GET /allocation_candidates with: JSON, with allocation_requests of 1.34 or later.\n".to_vec(
+                alloc,
+            ),
+        _ => Ok(Vec::new(alloc)),
+    }
+}
+
 /// Of what is asked and refused.
 pub(crate) fn asked_detail(
     alloc: Global,
@@ -116,6 +130,7 @@ pub(crate) fn asked_detail(
         AskRefusal::Token(fault) => token_detail(alloc, job, *fault),
         AskRefusal::Host(fault) => host_remedy(alloc, job.command.host().unwrap_or(""), *fault),
         AskRefusal::Flavors(refusal) => flavors_detail(alloc, refusal),
+        AskRefusal::Answer(refusal) => answer_detail(alloc, *refusal),
         AskRefusal::NoMemory => Ok(Vec::new(alloc)),
     }
 }

@@ -2,11 +2,11 @@
 ghost use Rattle.std.specs.Prelude.{◌≡◌, ◌≤◌, ◌++◌};
 ghost use Rattle.ac_query.specs.Shown.Faults.{fault_shown};
 ghost use Rattle.ac_run.specs.Flavors.{flavor_line, query_told, why_shown};
-ghost use Rattle.ac_run.specs.Lines.{group_line, line_at, pair_line, record_line};
+ghost use Rattle.ac_run.specs.Lines.{answer_line, group_line, line_at, pair_line, record_line};
 ghost use Rattle.ac_run.specs.Refusals.{line_of, line_of_asked, line_of_tables, line_told, status_of, status_of_asked, status_told};
 ghost use Rattle.ac_base.specs.Writing.{Pushes, TakesLine};
 
-use crate::refusal::{AskRefusal, FlavorsRefusal, Refusal, Refused, TablesRefusal};
+use crate::refusal::{AnswerRefusal, AskRefusal, FlavorsRefusal, Refusal, Refused, TablesRefusal};
 use ac_base::{Digits, Sink, WriteFailed, push_all, push_pieces};
 use ac_cloud::HostFault;
 use ac_query::{QueryFault, TokenFault};
@@ -151,6 +151,18 @@ fn push_flavors_line<E: Sink>(err: &mut E, refusal: &FlavorsRefusal) -> Result<(
     }
 }
 
+// The line of an answer of the service that is refused.
+#[tactic(auto, unfolding(crate::specs::Lines::answer_line))]
+fn push_answer_line<E: Sink>(err: &mut E, refusal: AnswerRefusal) -> Result<(), WriteFailed>
+    ensures { Pushes E.taken E.failures err.old err.new result (answer_line refusal) }
+{
+    match refusal {
+        AnswerRefusal::Unreadable => push_whole(err, b"answer: Unreadable\n"),
+        AnswerRefusal::TooLarge => push_whole(err, b"answer: TooLarge\n"),
+        AnswerRefusal::BadAnswer => push_whole(err, b"answer: BadAnswer\n"),
+    }
+}
+
 /// Pushes the line of what is asked and refused.
 #[tactic(auto, unfolding(crate::specs::Lines::token_line, crate::specs::Lines::host_line, crate::specs::Lines::memory_line))]
 pub fn push_asked_line<E: Sink>(err: &mut E, refusal: &AskRefusal) -> Result<(), WriteFailed>
@@ -164,6 +176,7 @@ pub fn push_asked_line<E: Sink>(err: &mut E, refusal: &AskRefusal) -> Result<(),
         AskRefusal::Host(HostFault::Unknown) => push_whole(err, b"host: Unknown\n"),
         AskRefusal::Host(HostFault::Ambiguous) => push_whole(err, b"host: Ambiguous\n"),
         AskRefusal::Flavors(refusal) => push_flavors_line(err, refusal),
+        AskRefusal::Answer(refusal) => push_answer_line(err, *refusal),
         AskRefusal::NoMemory => push_whole(err, b"out of memory\n"),
     }
 }
@@ -188,7 +201,7 @@ pub fn asked_status(refusal: &AskRefusal) -> u8
 {
     match refusal {
         AskRefusal::Query(_) | AskRefusal::Flavors(_) => 4,
-        AskRefusal::Token(_) | AskRefusal::Host(_) => 5,
+        AskRefusal::Token(_) | AskRefusal::Host(_) | AskRefusal::Answer(_) => 5,
         AskRefusal::NoMemory => 7,
     }
 }

@@ -321,7 +321,7 @@ fn check_pushes(rt: &(impl Abort + AllocGlobal), case: &Case) -> Result<(), Allo
         let left = left_by(rt, case, out)?;
         assert!(rt; left.output.len() > taken || call == 0, "call {call}");
         taken = left.output.len();
-        if left.status == 0 {
+        if left.status == case.status {
             break;
         }
         expect_part(rt, &left, output.as_str(), call);

@@ -25,6 +25,7 @@ use Rattle.ac_tables.specs.Tables.ProviderTable.{provider_checks}
 use Rattle.ac_tables.specs.Tables.Rows.{records_of}
 use Rattle.ac_tables.specs.Tables.TraitTable.{trait_checks}
 use Rattle.ac_tables.specs.Tables.UsageTable.{usage_checks, usage_columns, usages_said}
+use Rattle.ac_session.specs.Held.{unnamed}
 use Rattle.ac_session.specs.Laws.{GoesOn, SessionsGoOn, providers_behind, with_usages}
 use Rattle.ac_tables.specs.Laws.{HaveClassesInOrder, amount_stated}
 use Rattle.ac_session.specs.Turns.{lines_in}
@@ -250,4 +251,4 @@ module _ (t : Tables) (fine : tables_fault t ≡ None) (all : List Provider) (st
 
 pub sessions_go_on : SessionsGoOn
 sessions_go_on version tables questions fine fit =
-    goes_on tables fine (providers_behind version (world_stated tables) (lines_in questions)) (session_stated version tables (lines_in questions)) fit
+    goes_on tables fine (providers_behind version (unnamed (world_stated tables)) (lines_in questions)) (session_stated version tables (lines_in questions)) fit

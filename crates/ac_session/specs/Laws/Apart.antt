@@ -1,11 +1,11 @@
 -- Answers are read apart: each up to the first line that begins with `=`.
 use Rattle.std.specs.Prelude.{◌≡◌, ◌≢◌, ℕ, zero, suc, ◌==◌, Bool, false, true, List, [], ◌∷◌, ◌++◌, drop, length, if◌then◌else◌, Option}
 use Rattle.std.specs.List.{flat_map, slice_split}
-use Rattle.ac_cloud.specs.World.{World}
 use Rattle.ac_query.specs.declared.version.Version.{Version}
 use Rattle.ac_rules.specs.Together.{is_empty}
 use Rattle.ac_session.specs.Escapes.{plain}
 use Rattle.ac_session.specs.Frames.{begins_line, last_newline, lines_written}
+use Rattle.ac_session.specs.Held.{Held}
 use Rattle.ac_session.specs.Lines.{Given, is_newline, newline}
 use Rattle.ac_session.specs.Questions.{Text}
 use Rattle.ac_session.specs.Tries.{text_with, turn_at}
@@ -41,35 +41,35 @@ answers_read (suc n) text = first_answer text ∷ answers_read n (drop (length (
 -- Who reads up to the first line that begins with `=` has read what is written for a line of a session, whatever it says and whatever stands behind it.
 abbrev pub AnswersApart : Type 0
 AnswersApart =
-    (version : Version) (world : World) (given : Given) → text_of (turn_of version world given) ≢ []
-    → (rest : Text) → first_answer (text_of (turn_of version world given) ++ rest) ≡ text_of (turn_of version world given)
+    (version : Version) (held : Held) (given : Given) → text_of (turn_of version held given) ≢ []
+    → (rest : Text) → first_answer (text_of (turn_of version held given) ++ rest) ≡ text_of (turn_of version held given)
 
 -- Who takes the blank off each line that begins with one has the lines of the answer again.
 abbrev pub BlanksComeOff : Type 0
 BlanksComeOff = (text : Text) → plain true (lines_written text) ≡ text ++ last_newline (begins_line true text)
 
 -- what is written for lines one after another, but for those that have no answer
-abbrev pub answers_of : Version → World → List Given → List Text
-answers_of version world [] = []
-answers_of version world (given ∷ others) =
-    let turn = turn_of version world given in
-    if is_empty (text_of turn) then answers_of version turn.world others else text_of turn ∷ answers_of version turn.world others
+abbrev pub answers_of : Version → Held → List Given → List Text
+answers_of version held [] = []
+answers_of version held (given ∷ others) =
+    let turn = turn_of version held given in
+    if is_empty (text_of turn) then answers_of version turn.state others else text_of turn ∷ answers_of version turn.state others
 
 -- Who reads a session answer by answer reads what is written for one line after another.
 abbrev pub SessionsApart : Type 0
-SessionsApart = (version : Version) (world : World) (lines : List Given)
-    → answers_read (length (answers_of version world lines)) (session_text version world lines) ≡ answers_of version world lines
+SessionsApart = (version : Version) (held : Held) (lines : List Given)
+    → answers_read (length (answers_of version held lines)) (session_text version held lines) ≡ answers_of version held lines
 
 -- the same, where the searches of some lines stopped
-abbrev pub answers_with : Version → World → List (Option (List ℕ)) → List Given → List Text
-answers_with version world [] lines = answers_of version world lines
-answers_with version world (stop ∷ stops) [] = []
-answers_with version world (stop ∷ stops) (given ∷ others) =
-    let turn = turn_at version world stop given in
-    let later = answers_with version turn.world stops others in
+abbrev pub answers_with : Version → Held → List (Option (List ℕ)) → List Given → List Text
+answers_with version held [] lines = answers_of version held lines
+answers_with version held (stop ∷ stops) [] = []
+answers_with version held (stop ∷ stops) (given ∷ others) =
+    let turn = turn_at version held stop given in
+    let later = answers_with version turn.state stops others in
     if is_empty (text_of turn) then later else text_of turn ∷ later
 
 -- So does who reads one in which searches stopped.
 abbrev pub StoppedApart : Type 0
-StoppedApart = (version : Version) (world : World) (stops : List (Option (List ℕ))) (lines : List Given)
-    → answers_read (length (answers_with version world stops lines)) (text_with version world stops lines) ≡ answers_with version world stops lines
+StoppedApart = (version : Version) (held : Held) (stops : List (Option (List ℕ))) (lines : List Given)
+    → answers_read (length (answers_with version held stops lines)) (text_with version held stops lines) ≡ answers_with version held stops lines

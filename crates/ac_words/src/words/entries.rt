@@ -1,8 +1,8 @@
 //! What the matches of `clap` hold.
-ghost use Rattle.std.specs.Prelude.{◌≡◌, ◌∷◌, IfErr, IfOk, OnOk, Some, [], option_map, true};
+ghost use Rattle.std.specs.Prelude.{◌≡◌, ◌∷◌, IfErr, IfOk, OnOk, Some, [], codes, option_and_then, option_map, true};
 ghost use Rattle.ac_run.specs.Tasks.{candidates, command_shown, list, tokens};
 ghost use Rattle.clap.specs.Words.{first_of, found_of, rows_of, subcommand_rows_of};
-ghost use Rattle.ac_words.specs.Words.{IsMadeOf, Says, Tells, after_of, asking, at_of, call_of, call_shown, command_found, is_complete, is_set, option_kinds, own_faults, traits_of, tries_kinds, tries_named, tries_of, version_kinds, version_named, version_of, within_in, aggregate_kinds, aggregate_named, aggregate_of, aggregates_kinds};
+ghost use Rattle.ac_words.specs.Words.{IsMadeOf, Says, Tells, after_of, asking, asking_beside, at_of, call_of, call_shown, command_found, is_complete, is_set, option_kinds, own_faults, traits_of, tries_kinds, tries_named, tries_of, version_kinds, version_named, version_of, within_in, aggregate_kinds, aggregate_named, aggregate_of, aggregates_kinds};
 
 use super::tables::paths;
 use super::{Call, WordFault, Words, fault_of, grammar};
@@ -97,6 +97,17 @@ fn list<'a>(entries: &ArgMatches<'a>) -> Option<Call<'a>>
     asking(entries, Command::List { after, at, traits })
 }
 
+// An answer of the service with its query.
+fn beside<'a>(entries: &ArgMatches<'a>) -> Option<Call<'a>>
+    ensures { option_map call_shown result
+        ≡ option_and_then (asking_beside (rows_of (found_of entries.now)))
+        (first_of (codes "answer") (rows_of (found_of entries.now))) }
+{
+    let path = entry(entries, "answer")?;
+    let query = entry(entries, "query")?;
+    Some(Call::Beside(path, past_mark(query)))
+}
+
 // What the entries of a command call for; none where one that it needs isn't there.
 #[tactic(auto, unfolding(crate::specs::Words::call_of))]
 fn call<'a>(name: Name, entries: &ArgMatches<'a>) -> Option<Call<'a>>
@@ -129,6 +140,7 @@ fn call<'a>(name: Name, entries: &ArgMatches<'a>) -> Option<Call<'a>>
             let metrics = is_set(entries, "prometheus");
             Some(Call::Plan(entry(entries, "flavors")?, metrics))
         }
+        Name::Compare => beside(entries),
         Name::Audit => {
             let zone = entry(entries, "zone");
             Some(Call::Job(Command::Audit { zone }, ""))

@@ -2,7 +2,7 @@
 ghost use Rattle.std.specs.Prelude.{◌≡◌, IfOk, false};
 ghost use Rattle.clap.specs.Words.{app_of, rule_of};
 ghost use Rattle.clap.specs.declared.builder.command.Command.TheViews.{out-Command as fields_of};
-ghost use Rattle.ac_words.specs.Words.{app_for, audit_app, candidates_app, capacity_app, check_app, explain_app, fill_app, flag_rule, hosts_app, list_app, option_rule, program, query_app, search_app, session_app, shown_app, tokens_app, verify_app, why_app, with_common, with_options, with_tables, with_tries, word_rule};
+ghost use Rattle.ac_words.specs.Words.{app_for, audit_app, candidates_app, capacity_app, compare_app, check_app, explain_app, fill_app, flag_rule, hosts_app, list_app, option_rule, program, query_app, search_app, session_app, shown_app, tokens_app, verify_app, why_app, with_common, with_options, with_tables, with_tries, word_rule};
 
 use super::help;
 use crate::name::Name;
@@ -394,6 +394,27 @@ fn capacity<'a>(alloc: Global) -> Result<Command<'a>, AllocError>
     ))
 }
 
+fn compare<'a>(alloc: Global) -> Result<Command<'a>, AllocError>
+    ensures app { IfOk result (λ c. app_of c ≡ compare_app) }
+    ensures local { IfOk result (λ c. (fields_of c).has_globals ≡ false) }
+{
+    let command = with_query(
+        alloc,
+        "compare",
+        "Writes how an answer of the service differs from the allocation candidates",
+        "ac_cli compare [OPTIONS] --tables <DIR> <QUERY> <ANSWER>\n       \
+         ac_cli compare [OPTIONS] --providers <FILE> --inventories <FILE> <QUERY> <ANSWER>",
+        help::COMPARE,
+    )?;
+    let command = command.arg(word(
+        alloc,
+        "answer",
+        "ANSWER",
+        "What the service answered: a body of GET /allocation_candidates (JSON)",
+    ))?;
+    add_tries(alloc, command)
+}
+
 fn audit<'a>(alloc: Global) -> Result<Command<'a>, AllocError>
     ensures app { IfOk result (λ c. app_of c ≡ audit_app) }
     ensures local { IfOk result (λ c. (fields_of c).has_globals ≡ false) }
@@ -445,6 +466,7 @@ pub(super) fn command<'a>(alloc: Global, name: Name) -> Result<Command<'a>, Allo
         Name::Hosts => hosts(alloc),
         Name::Why => why(alloc),
         Name::Capacity => capacity(alloc),
+        Name::Compare => compare(alloc),
         Name::Audit => audit(alloc),
         Name::Session => session(alloc),
     }
@@ -471,6 +493,7 @@ pub(super) fn program<'a>(alloc: Global) -> Result<Command<'a>, AllocError>
     let command = command.subcommand(hosts(alloc)?)?;
     let command = command.subcommand(why(alloc)?)?;
     let command = command.subcommand(capacity(alloc)?)?;
+    let command = command.subcommand(compare(alloc)?)?;
     let command = command.subcommand(audit(alloc)?)?;
     let command = command.subcommand(session(alloc)?)?;
     Ok(command)

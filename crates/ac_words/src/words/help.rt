@@ -111,6 +111,12 @@ pub(super) const CAPACITY: &str = searching!(
     "  ac_cli capacity flavors.csv --tables cloud"
 );
 
+pub(super) const COMPARE: &str = searching!(
+    "  0  they have the same\n  1  they differ\n",
+    "  4  the query was refused\n  5  the answer was refused, or could not be read\n",
+    "  ac_cli compare 'resources=VCPU:4' answer.json --tables cloud"
+);
+
 pub(super) const AUDIT: &str = below!(
     "  0  nothing is amiss\n  1  something is\n",
     "",

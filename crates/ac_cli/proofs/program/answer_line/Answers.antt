@@ -7,7 +7,7 @@ returns g c =
       from = c.in-Ok.inputs;
       to = c.answer_opened.new.inputs;
       files = rw (← c.paths-paths.ensures) c.in-Ok.ensures.files;
-      flavors = c.deref.result.now;
-      held = rw c.deref.ensures.value c.in-Ok-flavors_of.ensures.held;
+      file = c.deref.result.now;
+      held = rw c.deref.ensures.value c.in-Ok-file_of.ensures.held;
       ran = c.answer_opened.ensures;
     }))

@@ -9,13 +9,13 @@ use Rattle.ac_session.proofs.endings.refused.Goals as goal
 pub returns-in-NoMemory : goal.returns-in-NoMemory
 returns-in-NoMemory c = λ o is most small world all old count. record {
   answer = record { ok = tt; part = part_none old o.output; failed = λ e. absurd cc; failures = omega arith };
-  world = tt;
+  state = tt;
 }
 
 pub returns-in_default : goal.returns-in_default
 returns-in_default c = λ o is most small world all old count.
     let this = is c.in_default.not-NoMemory in
     record {
-      answer = (ends_so (Some o) world (ending.Refused c.args.refusal) old count (λ e. cc) (ap (λ o. o.output) this) (sym (ap (λ o. end_line o.status o.line) this))).answer;
-      world = refused_world most small world all c.args.refusal o this;
+      answer = (ends_so (Some o) world (ending.Refused c.args.refusal) old count (λ e. cc) (ap (λ o. o.output) this) (sym (ap (λ o. end_line o.status o.line) this)) (sym (ap (λ o. Some o.status) this))).answer;
+      state = refused_world most small world all c.args.refusal o this;
     }

@@ -107,15 +107,15 @@ module _ (version : Version) (query token : List ℕ) (world : World) (made : pa
   abbrev between : World
   between = record world { providers = new }
 
-  is_between : (claim_turn version query token world).world ≡ between
+  is_between : (claim_turn version query token world).state ≡ between
   unfolding claim_turn
   is_between = ap (λ o. world_after 0 world o.status new) made
 
-  undone : release_turn version query token between ≡ record { answer = Some (written (codes "released\n") 0); world = world }
+  undone : release_turn version query token between ≡ record { answer = Some (written (codes "released\n") 0); state = world }
   unfolding release_turn
   undone =
       ap (λ o. settles 0 between o (released new (placed_by version new query token))) released_said
-      ∙ ap (λ ps. record { answer = Some (written (codes "released\n") 0); world = record between { providers = ps } }) given_back
+      ∙ ap (λ ps. record { answer = Some (written (codes "released\n") 0); state = record between { providers = ps } }) given_back
 
 release_turn_undoes : ReleaseTurnUndoes
 release_turn_undoes version query token world made =

@@ -1,6 +1,6 @@
 use Rattle.std.proofs.Common.{arith}
-use Rattle.ac_cloud.specs.Cloud.CloudWorld.{world_of}
 use Rattle.ac_session.proofs.Stood.{first_whole, stands_end, stands_first, stands_on, stands_part, still_few, with_weaker}
+use Rattle.ac_session.specs.Held.{held_of}
 use Rattle.ac_session.proofs.session.answer_lines.Goals as goal
 
 pub returns-in-AtEnd-clause-ok : goal.returns-in-AtEnd-clause-ok
@@ -20,7 +20,7 @@ returns-in-Stopped-clause-part g c = λ q e few.
 
 pub turns-init : goal.turns-init
 turns-init g c = record {
-  stands = λ q e few. stands_first c.args.tries c.args.version (world_of c.args.cloud.now) q (g.W.Sink.taken c.args.out) _ e;
+  stands = λ q e few. stands_first c.args.tries c.args.version (held_of c.args.held.now) q (g.W.Sink.taken c.args.out) _ e;
   asked = omega arith;
   failures = omega arith;
 }

@@ -1,8 +1,8 @@
 use Rattle.std.proofs.Common.{◌≡◌, ◌<◌, ◌≤◌, ℕ, List, Some, length}
-use Rattle.ac_cloud.specs.Cloud.CloudWorld.{world_of}
 use Rattle.ac_session.specs.Lines.{most_passed}
 use Rattle.ac_session.specs.Reading.{feed_in, left}
 use Rattle.ac_session.specs.Standing.{Stands}
+use Rattle.ac_session.specs.Held.{held_of}
 use Rattle.ac_session.proofs.session.answer_lines.Given as goal
 
 -- so many turns were taken
@@ -10,7 +10,7 @@ abbrev pub invariant-turns : goal.invariant-turns
 invariant-turns g l =
     record {
       stands : (q : List ℕ) → left g.Q.Feed.remaining l.fn.lines ≡ Some q → length q < most_passed
-          → Stands l.tries l.version (world_of l.fn.cloud) q (g.W.Sink.taken l.fn.out) (world_of l.cloud) (left g.Q.Feed.remaining l.lines) (g.W.Sink.taken l.out) l.counter;
+          → Stands l.tries l.version (held_of l.fn.held) q (g.W.Sink.taken l.fn.out) (held_of l.held) (left g.Q.Feed.remaining l.lines) (g.W.Sink.taken l.out) l.counter;
       asked : g.Q.Feed.failures (feed_in l.fn.lines) ≤ g.Q.Feed.failures (feed_in l.lines);
       failures : g.W.Sink.failures l.fn.out ≤ g.W.Sink.failures l.out;
     }

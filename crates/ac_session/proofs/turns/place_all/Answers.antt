@@ -15,14 +15,15 @@ returns-in-Ok g c =
     let old = world_of c.args.cloud.now in
     let asked = asked_of c.args.query.now in
     let ts = filled asked.limit old.providers asked in
+    let status = c.fill_status.ensures.said ts c.in-Ok.ensures.count ∙ ap (λ (limit : Option ℕ). fill_status limit ts) c.limit.ensures in
     record {
       answer = record {
-        ok = record { output = c.in-Ok.ensures.text; ends = ap (λ n. end_line n []) (c.fill_status.ensures.said ts c.in-Ok.ensures.count ∙ ap (λ (limit : Option ℕ). fill_status limit ts) c.limit.ensures) };
+        ok = record { output = c.in-Ok.ensures.text; ends = ap (λ n. end_line n []) status; status = ap Some status };
         part = tt;
         failed = λ e. absurd cc;
         failures = c.write_placements.ensures.failures;
       };
-      world = filled_world old (world_of c.settle.new.cloud) asked asked.limit ts (c.settle.ensures.providers ∙ c.in-Ok.ensures.world) c.settle.ensures.sizes;
+      state = filled_world old (world_of c.settle.new.cloud) asked asked.limit ts (c.settle.ensures.providers ∙ c.in-Ok.ensures.world) c.settle.ensures.sizes;
     }
 
 -- nothing is settled
@@ -36,5 +37,5 @@ returns-in-Err g c =
           gives_weaker (λ is. c.write_placements.ensures.stopped (c.in-Err.is ∙ ap Err is)) _ _ _ _ _ (Some placed)
           (c.broken_off.ensures.gives (Some placed) _ _ _ _ c.in-Err.ensures.part (λ is. c.write_placements.ensures.failed (c.in-Err.is ∙ ap Err is))
           c.write_placements.ensures.failures);
-      world = stopped_behind old (settles 1 old placed (after_fill old.providers asked)) c.broken_off.result c.broken_off.ensures.stopped;
+      state = stopped_behind old (settles 1 old placed (after_fill old.providers asked)) c.broken_off.result c.broken_off.ensures.stopped;
     }
