@@ -135,6 +135,15 @@ abbrev pub on_host : Result ℕ HostFault → (ℕ → Outcome) → Outcome
 on_host (Ok host) say = say host
 on_host (Err f) say = refused (host_line f) 5
 
+-- the place of the root of a provider, where one is found
+abbrev pub root_found : List Provider → Result ℕ HostFault → Option ℕ
+root_found all (Ok host) = Some (root_place all host)
+root_found all (Err f) = None
+
+-- that of the provider that is named, where one is
+abbrev pub root_named : List Provider → Option (List ℕ) → Option ℕ
+root_named all host = option_and_then (λ host. root_found all (host_of all host)) host
+
 -- what is said at the root of the provider that is named, or of all where none is
 abbrev pub at_host : List Provider → Option (List ℕ) → (Option ℕ → Says) → Says
 at_host all None say = say None

@@ -12,7 +12,7 @@ ghost use Rattle.ac_query.specs.Pairs.{pairs_of};
 ghost use Rattle.ac_query.specs.Pairs.Values.{ids_value};
 ghost use Rattle.ac_query.specs.Shown.Queries.{asked_of};
 ghost use Rattle.ac_query.specs.Tokens.{ids_of, token_fault};
-ghost use Rattle.ac_run.specs.Answer.{Says, answer_in, at_host, ids_given, past_token, said_by, zone_named};
+ghost use Rattle.ac_run.specs.Answer.{Says, answer_in, at_host, ids_given, past_token, root_named, said_by, zone_named};
 ghost use Rattle.ac_run.specs.Compared.{answer_read};
 ghost use Rattle.ac_run.specs.Compared.Answers.{texts_in};
 ghost use Rattle.ac_run.specs.Comparing.{answer_refused};
@@ -130,12 +130,14 @@ fn find_host(cloud: &Cloud, host: &str) -> Result<u32, AskRefusal>
         .map_err(|fault| AskRefusal::Host(fault))
 }
 
-// The place of the root at which candidates are to stand, where a host names one.
+/// The place of the root at which candidates are to stand, where a host names one.
 #[tactic(auto, using(crate::proofs::HostFound::host_within))]
-fn find_root(cloud: &Cloud, host: Option<&str>) -> Result<Option<u32>, AskRefusal>
+pub fn find_root(cloud: &Cloud, host: Option<&str>) -> Result<Option<u32>, AskRefusal>
     ensures found { IfOk result (λ root. (say : Option ℕ → Says) (asked : Asked)
         (ids : Option (List ℕ)) → at_host (providers_of cloud.now)
         (option_map (λ t. t.now) host.entry) say asked ids ≡ say root asked ids) }
+    ensures root { IfOk result (λ root. root ≡ root_named (providers_of cloud.now)
+        (option_map (λ t. t.now) host.entry)) }
     ensures sound { IfOk result (λ root.
         IfSome root (λ place. place < length (providers_of cloud.now))) }
     ensures fault { IfErr result (ExplainsAt (providers_of cloud.now)

@@ -22,7 +22,7 @@ use Rattle.ac_run.specs.Tasks as command
 use Rattle.ac_session.proofs.Stood.{first_none, none_added}
 use Rattle.ac_session.specs.Held.{Held, unnamed}
 use Rattle.ac_session.specs.Lines.{Given, line, too_long, end}
-use Rattle.ac_session.specs.Questions.{Asked, job, fill, claim, release, release_name, move, usages, left_at, help, nothing, unknown, wrong_number, asked_of}
+use Rattle.ac_session.specs.Questions.{Asked, job, fill, place, claim, release, release_name, move, mark, back, usages, left_at, help, nothing, unknown, wrong_number, asked_of}
 use Rattle.ac_session.specs.Sessions.{AreUnread, held, held_with, session_answer, session_answer_with}
 use Rattle.ac_session.specs.Standing.{stop_line, stop_status}
 use Rattle.ac_session.specs.Tries.{AreStops, AskedMayStop, GivenMayStop, WithStops, text_with}
@@ -102,25 +102,29 @@ search_none (command.capacity flavors metrics) version all asked may = may.2
 search_none (command.compare answer) version all asked may = may
 search_none (command.audit _) version all asked may = may
 
-asked_none : (version : Version) (world : World) (asked : Asked) → AskedMayStop None version world asked → ⊥
-asked_none version world (job task) may = search_none task.command task.version world.providers _ may.0
-asked_none version world (fill query) may = may.0
-asked_none version world (claim query token name) may = may
-asked_none version world (release query token) may = may
-asked_none version world (release_name name) may = may
-asked_none version world (move name token) may = may
-asked_none version world usages may = may
-asked_none version world (left_at host) may = may
-asked_none version world help may = may
-asked_none version world nothing may = may
-asked_none version world unknown may = may
-asked_none version world wrong_number may = may
+asked_none : (version : Version) (held : Held) (asked : Asked) → AskedMayStop None version held asked → ⊥
+asked_none version held (job task) may = search_none task.command task.version held.world.providers _ may.0
+asked_none version held (fill query) may = may.0
+asked_none version held (place query None host) may = may.0
+asked_none version held (place query (Some name) host) may = may.1.0
+asked_none version held (claim query token name) may = may
+asked_none version held (release query token) may = may
+asked_none version held (release_name name) may = may
+asked_none version held (move name token) may = may
+asked_none version held mark may = may
+asked_none version held back may = may
+asked_none version held usages may = may
+asked_none version held (left_at host) may = may
+asked_none version held help may = may
+asked_none version held nothing may = may
+asked_none version held unknown may = may
+asked_none version held wrong_number may = may
 
-given_none : (version : Version) (world : World) (given : Given) → GivenMayStop None version world given → ⊥
+given_none : (version : Version) (held : Held) (given : Given) → GivenMayStop None version held given → ⊥
 unfolding GivenMayStop
-given_none version world (line text) may = asked_none version world (asked_of version text) may
-given_none version world too_long may = may
-given_none version world end may = may
+given_none version held (line text) may = asked_none version held (asked_of version text) may
+given_none version held too_long may = may
+given_none version held end may = may
 
 -- so each line is answered whole
 whole_text : (version : Version) (state : Held) (stops : List (Option (List ℕ))) (lines : List Given) → AreStops None version state stops lines
@@ -129,7 +133,7 @@ whole_text version state [] lines are = refl
 whole_text version state (stop ∷ stops) [] are = refl
 whole_text version state (None ∷ stops) (given ∷ others) are =
     ap (λ l. text_of (turn_of version state given) ++ l) (whole_text version (turn_of version state given).state stops others are.1)
-whole_text version state (Some written ∷ stops) (given ∷ others) are = absurd (given_none version state.world given are.0.0)
+whole_text version state (Some written ∷ stops) (given ∷ others) are = absurd (given_none version state given are.0.0)
 
 never_stops : (tries : Option ℕ) (version : Version) (state : Held) (q : List ℕ) → tries ≡ None → (P : List ℕ → Type 0)
     → WithStops tries version state q P → P (session_text version state (lines_in q))

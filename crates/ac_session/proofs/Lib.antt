@@ -7,7 +7,9 @@ pub mod Plain
 pub mod Apart
 pub mod Turned
 pub mod Stood
+pub mod FirstPlaced
 pub mod Written
 pub mod Named
 pub mod Ended
+pub mod Differing
 pub mod UsageRows

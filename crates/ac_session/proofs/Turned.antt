@@ -38,9 +38,9 @@ use Rattle.ac_run.specs.declared.refusal.AskRefusal.{AskRefusal}
 use Rattle.ac_run.specs.declared.refusal.AskRefusal.TheVariants as ask
 use Rattle.ac_session.proofs.Written.{turn_whole}
 use Rattle.ac_session.specs.Laws.{AskingLeavesAll, ClaimTurnsNarrow}
-use Rattle.ac_session.specs.Questions.{claim, fill, help, job, left_at, move, nothing, release, release_name, unknown, usages, wrong_number}
+use Rattle.ac_session.specs.Questions.{back, claim, fill, help, job, left_at, mark, move, nothing, place, release, release_name, unknown, usages, wrong_number}
 use Rattle.ac_session.specs.Standing.{Gives, IsRefusal, TakesTurn}
-use Rattle.ac_session.specs.Turns.{claim_line, claim_of, claim_said, claim_turn, move_line, move_of, move_said, move_turn, places_named, placed_by, release_line, release_of, release_said, release_turn, settles, world_after}
+use Rattle.ac_session.specs.Turns.{claim_line, claim_of, claim_said, claim_turn, is_done, move_line, move_of, move_said, move_turn, places_named, placed_by, release_line, release_of, release_said, release_turn, settles, world_after}
 use Rattle.ac_session.specs.declared.endings.AnswerFault.{AnswerFault}
 use Rattle.ac_session.specs.declared.endings.Ending.{Ending}
 
@@ -106,6 +106,15 @@ refused_status (ask.Flavors f) most h = lt-leb 4 most (omega (arith, h))
 refused_status (ask.Answer f) most h = lt-leb 5 most (omega (arith, h))
 refused_status ask.NoMemory most h = lt-leb 7 most (omega (arith, h))
 
+-- nothing is done by one
+pub not_done : (refusal : AskRefusal) → is_done (Some (status_of_asked refusal)) ≡ false
+not_done (ask.Query f) = refl
+not_done (ask.Token f) = refl
+not_done (ask.Host f) = refl
+not_done (ask.Flavors f) = refl
+not_done (ask.Answer f) = refl
+not_done ask.NoMemory = refl
+
 -- nothing changes behind a refusal
 module _ (most : ℕ) (small : most ≤ 1) (world : World) (all : List Provider) where
   unchanged : (status : ℕ) → nat_le status most ≡ false → world_after most world status all ≡ world
@@ -115,7 +124,7 @@ module _ (most : ℕ) (small : most ≤ 1) (world : World) (all : List Provider)
   refused_world refusal o is = sym (ap (λ o. world_after most world o.status all) is ∙ unchanged (status_of_asked refusal) (refused_status refusal most small))
 
 -- two worlds with the same providers and sizes
-same_world : (a b : World) → a.providers ≡ b.providers → a.sizes ≡ b.sizes → a ≡ b
+pub same_world : (a b : World) → a.providers ≡ b.providers → a.sizes ≡ b.sizes → a ≡ b
 same_world a b p s = ap₂ (λ providers sizes. record { providers = providers; sizes = sizes }) p s
 
 -- what became of a list that was judged, or given back
@@ -217,10 +226,13 @@ module _ {V : Type 0} (items : V → List ℕ) (all : List Provider) (ids : List
 pub asking_leaves_all : AskingLeavesAll
 asking_leaves_all version held (job task) h = refl
 asking_leaves_all version held (fill query) h = absurd h
+asking_leaves_all version held (place query name host) h = absurd h
 asking_leaves_all version held (claim query token name) h = absurd h
 asking_leaves_all version held (release query token) h = absurd h
 asking_leaves_all version held (release_name name) h = absurd h
 asking_leaves_all version held (move name token) h = absurd h
+asking_leaves_all version held mark h = absurd h
+asking_leaves_all version held back h = absurd h
 asking_leaves_all version held usages h = refl
 asking_leaves_all version held (left_at host) h = refl
 asking_leaves_all version held help h = refl

@@ -205,7 +205,7 @@ module _ (tries : Option ℕ) (version : Version) (first : Held) (given : Given)
     output : IsGiven (turn_at version first stop given).answer e f end
     state : now ≡ (turn_at version first stop given).state
 
-  is_at : (end : Ending) → Closes (GivenMayStop tries version first.world given) turn.answer e f end → now ≡ state_behind first turn end → IsAt end
+  is_at : (end : Ending) → Closes (GivenMayStop tries version first given) turn.answer e f end → now ≡ state_behind first turn end → IsAt end
   is_at ending.Stopped closes on =
       let taken = part_taken e f (output_of turn.answer) closes.1 in
       record { stop = Some taken.0; may = (closes.0, taken.1.0, taken.1.1); output = record { output = taken.2; ends = refl; status = refl }; state = on }
@@ -215,7 +215,7 @@ module _ (tries : Option ℕ) (version : Version) (first : Held) (given : Given)
   is_at ending.Unasked closes on = record { stop = None; may = tt; output = closes; state = on }
 
   pub answers_given : {T : Type 0} (result : Result T AnswerFault) (end : Ending) (before after : ℕ)
-      → TakesTurn (GivenMayStop tries version first.world given) first turn (Ok end) now e f before after
+      → TakesTurn (GivenMayStop tries version first given) first turn (Ok end) now e f before after
       → OnOk result ((old : Option (List ℕ)) (text : List ℕ) → Appends (begun old) f text → Appends old w (lines_written text ++ end_told end))
       → ((old : Option (List ℕ)) (text : List ℕ) → Appends (begun old) f text → IsFirstPart (append_known old (lines_written text ++ end_told end)) w)
       → Answers tries version first given result now a w

@@ -9,8 +9,8 @@ use Rattle.ac_rules.specs.Judge.{is_candidate}
 use Rattle.ac_run.specs.Answer.{past_query, written}
 use Rattle.ac_session.specs.Held.{Held, unnamed}
 use Rattle.ac_session.specs.Lines.{Given, behind_line, first_line, is_newline, newline}
-use Rattle.ac_session.specs.Questions.{Asked, Text, job, fill, claim, release, release_name, move, usages, left_at, help, nothing, unknown, wrong_number, is_blank, words_of}
-use Rattle.ac_session.specs.Turns.{answers, claim_line, claim_turn, is_done, lines_in, named_release_turn, release_said, release_turn, status_of, turn_asked, turn_of}
+use Rattle.ac_session.specs.Questions.{Asked, Text, job, fill, place, claim, release, release_name, move, mark, back, usages, left_at, help, nothing, unknown, wrong_number, is_blank, words_of}
+use Rattle.ac_session.specs.Turns.{answers, back_turn, claim_line, claim_turn, is_done, lines_in, mark_turn, named_release_turn, release_said, release_turn, status_of, turn_asked, turn_of}
 use Rattle.ac_tables.specs.Tables.{Tables, tables_fault, world_stated}
 use Rattle.ac_tables.specs.Tables.Rows.{records_of}
 use Rattle.ac_tables.specs.UsageRows.{usages_fit, usages_text}
@@ -29,14 +29,17 @@ pub record ReadsBack : Type 0 where
   pub line : (text rest : Text) → LacksNewlines text → first_line (text ++ newline ∷ rest) ≡ text
   pub behind : (text rest : Text) → LacksNewlines text → behind_line (text ++ newline ∷ rest) ≡ rest
 
--- what is asked is neither placements, nor a claim, nor a release, nor a move
+-- what is asked changes nothing: it is no placement, claim, release or move, no mark, and no way back
 abbrev pub OnlyAsks : Asked → Type 0
 OnlyAsks (job task) = ⊤
 OnlyAsks (fill query) = ⊥
+OnlyAsks (place query name host) = ⊥
 OnlyAsks (claim query token name) = ⊥
 OnlyAsks (release query token) = ⊥
 OnlyAsks (release_name name) = ⊥
 OnlyAsks (move name token) = ⊥
+OnlyAsks mark = ⊥
+OnlyAsks back = ⊥
 OnlyAsks usages = ⊤
 OnlyAsks (left_at host) = ⊤
 OnlyAsks help = ⊤
@@ -44,7 +47,7 @@ OnlyAsks nothing = ⊤
 OnlyAsks unknown = ⊤
 OnlyAsks wrong_number = ⊤
 
--- What only asks leaves all as it was, the cloud and the names.
+-- What only asks leaves all as it was, the cloud, the names and the marks.
 abbrev pub AskingLeavesAll : Type 0
 AskingLeavesAll = (version : Version) (held : Held) (asked : Asked) → OnlyAsks asked → (turn_asked version held asked).state ≡ held
 
@@ -64,10 +67,31 @@ abbrev pub ReleasedOnce : Type 0
 ReleasedOnce = (version : Version) (name : Text) (held : Held) → is_done (status_of (named_release_turn version name held).answer) ≡ true
     → named_release_turn version name (named_release_turn version name held).state ≡ answers (named_release_turn version name held).state (release_said false)
 
+-- what is held behind some lines
+abbrev pub held_behind : Version → Held → List Given → Held
+held_behind version held [] = held
+held_behind version held (given ∷ others) = held_behind version (turn_of version held given).state others
+
+-- what is asked neither marks nor goes back
+abbrev pub LeavesMarks : Asked → Type 0
+LeavesMarks mark = ⊥
+LeavesMarks back = ⊥
+LeavesMarks asked = ⊤
+
+-- Then the marks stay.
+abbrev pub MarksStay : Type 0
+MarksStay = (version : Version) (held : Held) (asked : Asked) → LeavesMarks asked → (turn_asked version held asked).state.marks ≡ held.marks
+
+-- Whatever is asked behind a mark: where the marks are as they were behind it, `back` gives back all that was held before it.
+abbrev pub BackToMark : Type 0
+BackToMark = (version : Version) (tables : Tables) (before between : List Given) → tables_fault tables ≡ None
+    → (let held = held_behind version (unnamed (world_stated tables)) before in
+    let now = held_behind version (mark_turn held).state between in
+    now.marks ≡ (mark_turn held).state.marks → (back_turn now).state ≡ held)
+
 -- the providers behind some lines
 abbrev pub providers_behind : Version → Held → List Given → List Provider
-providers_behind version held [] = held.world.providers
-providers_behind version held (given ∷ others) = providers_behind version (turn_of version held given).state others
+providers_behind version held lines = (held_behind version held lines).world.providers
 
 -- the tables, with the table of usages that is written of these providers
 abbrev pub with_usages : Tables → List Provider → Tables

@@ -3,6 +3,7 @@ pub mod Reading
 pub mod Rooms
 pub mod Questions
 pub mod Frames
+pub mod Marks
 pub mod Held
 pub mod Escapes
 pub mod UsageRows

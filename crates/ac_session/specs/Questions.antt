@@ -91,10 +91,13 @@ search_of (query ∷ words) = option_map (λ part. (query, part.0, part.1)) (par
 pub data Asked : Type 0 where
   job : Task → Asked
   fill : Text → Asked
+  place : Text → Option Text → Option Text → Asked
   claim : Text → Text → Option Text → Asked
   release : Text → Text → Asked
   release_name : Text → Asked
   move : Text → Text → Asked
+  mark : Asked
+  back : Asked
   usages : Asked
   left_at : Option Text → Asked
   help : Asked
@@ -132,6 +135,15 @@ asks_about command version words = asks (two_of words) (λ p. asks_job (command 
 abbrev pub asks_fill : List Text → Asked
 asks_fill words = asks (one_of words) fill
 
+-- a word that may stand there, and is a name then
+abbrev pub maybe_name : Option Text → Option (Option Text)
+maybe_name None = Some None
+maybe_name (Some word) = option_map (λ name. Some name) (name_of word)
+
+-- a query whose first candidate is placed, perhaps with a name, and at a host
+abbrev pub asks_place : List Text → Asked
+asks_place words = asks (search_of words) (λ p. asks (maybe_name p.1) (λ name. place p.0 name p.2))
+
 -- a query, and a token of what is taken, perhaps with a name
 abbrev pub asks_claim : List Text → Asked
 asks_claim words = asks (claim_of words) (λ p. claim p.0 p.1 p.2)
@@ -162,6 +174,7 @@ asked_by_name version name rest =
     else if bytes_eq name (codes "tokens") then asks_search tokens version words
     else if bytes_eq name (codes "list") then asks_search (λ after at. list after at true) version words
     else if bytes_eq name (codes "fill") then asks_fill words
+    else if bytes_eq name (codes "place") then asks_place words
     else if bytes_eq name (codes "count") then asks_query (task.fill true) version words
     else if bytes_eq name (codes "verify") then asks_about verify version words
     else if bytes_eq name (codes "explain") then asks_query explain version words
@@ -171,6 +184,8 @@ asked_by_name version name rest =
     else if bytes_eq name (codes "claim") then asks_claim words
     else if bytes_eq name (codes "release") then asks_release rest
     else if bytes_eq name (codes "move") then asks_move (words_behind rest)
+    else if bytes_eq name (codes "mark") then asks_alone (words_behind rest) mark
+    else if bytes_eq name (codes "back") then asks_alone (words_behind rest) back
     else if bytes_eq name (codes "usages") then asks_alone (words_behind rest) usages
     else if bytes_eq name (codes "left") then asks_left rest
     else if bytes_eq name (codes "help") then asks_alone (words_behind rest) help
@@ -193,10 +208,13 @@ asked_of version line =
 abbrev pub asked_in : Question → Asked
 asked_in (question.Job j) = job (task_of j)
 asked_in (question.Fill query) = fill query.now
+asked_in (question.Place query name host) = place query.now (option_map (λ t. t.now) name) (option_map (λ t. t.now) host)
 asked_in (question.Claim query token name) = claim query.now token.now (option_map (λ t. t.now) name)
 asked_in (question.Release query token) = release query.now token.now
 asked_in (question.ReleaseName name) = release_name name.now
 asked_in (question.Move name token) = move name.now token.now
+asked_in question.Mark = mark
+asked_in question.Back = back
 asked_in question.Usages = usages
 asked_in (question.Left host) = left_at (option_map (λ t. t.now) host)
 asked_in question.Help = help

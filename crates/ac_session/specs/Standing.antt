@@ -1,5 +1,5 @@
 -- Where a session stands between its questions.
-use Rattle.std.specs.Prelude.{◌≡◌, ℕ, ◌+◌, ◌≤◌, List, [], ◌∷◌, ◌++◌, codes, decimal, length, Option, None, Some, Result, Err, IfOk, OnErr, OnOk}
+use Rattle.std.specs.Prelude.{◌≡◌, ◌⊎◌, ℕ, ◌+◌, ◌≤◌, List, [], ◌∷◌, ◌++◌, codes, decimal, length, Option, None, Some, Result, Ok, Err, IfErr, IfOk, OnErr, OnOk, if◌then◌else◌}
 use Rattle.std.specs.Io.KnownBytes.{Appends, append_known}
 use Rattle.ac_base.specs.Devices.{Rises, TakesPart}
 use Rattle.ac_base.specs.Gathered.{IsFirstPart}
@@ -10,12 +10,12 @@ use Rattle.ac_run.specs.Refusals.{line_of_asked, status_of_asked}
 use Rattle.ac_run.specs.declared.refusal.AskRefusal.{AskRefusal}
 use Rattle.ac_run.specs.declared.refusal.AskRefusal.TheVariants as ask
 use Rattle.ac_session.specs.Frames.{end_line}
-use Rattle.ac_session.specs.Held.{Held}
+use Rattle.ac_session.specs.Held.{Claim, Held, Named, standing}
 use Rattle.ac_session.specs.Questions.LineFaults.{fault_line, fault_status}
 use Rattle.ac_session.specs.Sessions.{questions_line}
 use Rattle.ac_session.specs.Lines.{Given}
 use Rattle.ac_session.specs.Tries.{AreStops, MayStopAt, text_with, turn_at}
-use Rattle.ac_session.specs.Turns.{Turn, end_of, lines_in, output_of, status_of, text_of}
+use Rattle.ac_session.specs.Turns.{Turn, end_of, is_done, lines_in, output_of, status_of, text_of}
 use Rattle.ac_session.specs.declared.endings.AnswerFault.{AnswerFault}
 use Rattle.ac_session.specs.declared.endings.AnswerFault.TheVariants as fault
 use Rattle.ac_session.specs.declared.endings.Ending.{Ending}
@@ -57,6 +57,11 @@ status_told (ending.Faulted f) = Some fault_status
 status_told ending.Unasked = None
 status_told ending.Stopped = Some 8
 
+-- how an answer ends, of what is given beside something else
+abbrev pub ending_in : {X : Type 0} → Result (Ending × X) AnswerFault → Result Ending AnswerFault
+ending_in (Ok given) = Ok given.0
+ending_in (Err e) = Err e
+
 -- The output of an answer was written whole, and this is how it ends.
 pub record IsGiven (answer : Option Outcome) (old new : Option (List ℕ)) (ending : Ending) : Type 0 where
   pub output : Appends old new (output_of answer)
@@ -90,6 +95,11 @@ state_behind first turn ending.Unasked = turn.state
 pub record TakesTurn {S : Type 0} (may : Type 0) (first : S) (turn : Turn S) (result : Result Ending AnswerFault) (now : S) (old new : Option (List ℕ)) (before after : ℕ) : Type 0 where
   pub answer : Gives may turn.answer result old new before after
   pub state : IfOk result (λ end. now ≡ state_behind first turn end)
+
+-- An answer is handed on; where it is that what was asked is done, a name stands for this from then on. Or memory was wanting for the name.
+pub record IsNamed (name : List ℕ) (made : Option Claim) (answered result : Result Ending AnswerFault) (old new : Named) : Type 0 where
+  pub ok : IfOk result (λ end. (answered ≡ Ok end) × (new ≡ (if is_done (status_told end) then standing name made old else old)))
+  pub err : IfErr result (λ e. (answered ≡ Err e) ⊎ ((e ≡ fault.NoMemory) × (end : Ending) × (answered ≡ Ok end)))
 
 -- What bytes give is answered, perhaps up to where its search stopped; after an error a first part of the answer was written.
 pub record Answers {T : Type 0} (tries : Option ℕ) (version : Version) (first : Held) (given : Given) (result : Result T AnswerFault) (now : Held) (old new : Option (List ℕ)) : Type 0 where

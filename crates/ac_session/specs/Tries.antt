@@ -4,15 +4,15 @@ use Rattle.ac_cloud.specs.World.{World}
 use Rattle.ac_query.specs.Laws.Gathered.{asked_by}
 use Rattle.ac_query.specs.Pairs.{pairs_of}
 use Rattle.ac_query.specs.declared.version.Version.{Version}
-use Rattle.ac_run.specs.Answer.{Outcome, answer_in, fills, past_query}
+use Rattle.ac_run.specs.Answer.{Outcome, answer_in, at_host, fills, past_query}
 use Rattle.ac_run.specs.Lines.{tries_line}
 use Rattle.ac_run.specs.Stops.{SearchMayStop}
 use Rattle.ac_run.specs.Tasks.{Task}
 use Rattle.ac_search.specs.Shown.Walk.{MayStop}
 use Rattle.ac_session.specs.Held.{Held}
 use Rattle.ac_session.specs.Lines.{Given, line, too_long, end}
-use Rattle.ac_session.specs.Questions.{Asked, Text, job, fill, claim, release, release_name, move, usages, left_at, help, nothing, unknown, wrong_number, asked_of}
-use Rattle.ac_session.specs.Turns.{Turn, answers, lines_in, output_of, session_text, text_of, turn_of}
+use Rattle.ac_session.specs.Questions.{Asked, Text, job, fill, place, claim, release, release_name, move, mark, back, usages, left_at, help, nothing, unknown, wrong_number, asked_of}
+use Rattle.ac_session.specs.Turns.{Turn, answers, lines_in, output_of, place_line, session_text, text_of, turn_of}
 
 -- ---- which may stop
 
@@ -26,26 +26,40 @@ abbrev pub FillMayStop : Option ℕ → Version → World → Text → Type 0
 FillMayStop tries version world query =
     MayStop tries world.providers (asked_by version (pairs_of query)) None × ((past_query (fills world.providers false) None version query).line ≡ [])
 
+-- the search for the first candidate
+abbrev pub PlaceMayStop : Option ℕ → Version → World → Text → Option Text → Type 0
+PlaceMayStop tries version world query host =
+    MayStop tries world.providers (asked_by version (pairs_of query)) None
+    × ((past_query (at_host world.providers host (place_line world.providers)) None version query).line ≡ [])
+
+-- the same, where a name is to stand for it: it stands for nothing yet
+abbrev pub NamedPlaceMayStop : Option ℕ → Version → Held → Text → Text → Option Text → Type 0
+NamedPlaceMayStop tries version held query name host = (held.named name ≡ None) × PlaceMayStop tries version held.world query host
+
 -- a search for what is asked
-abbrev pub AskedMayStop : Option ℕ → Version → World → Asked → Type 0
-AskedMayStop tries version world (job task) = JobMayStop tries world task
-AskedMayStop tries version world (fill query) = FillMayStop tries version world query
-AskedMayStop tries version world (claim query token name) = ⊥
-AskedMayStop tries version world (release query token) = ⊥
-AskedMayStop tries version world (release_name name) = ⊥
-AskedMayStop tries version world (move name token) = ⊥
-AskedMayStop tries version world usages = ⊥
-AskedMayStop tries version world (left_at host) = ⊥
-AskedMayStop tries version world help = ⊥
-AskedMayStop tries version world nothing = ⊥
-AskedMayStop tries version world unknown = ⊥
-AskedMayStop tries version world wrong_number = ⊥
+abbrev pub AskedMayStop : Option ℕ → Version → Held → Asked → Type 0
+AskedMayStop tries version held (job task) = JobMayStop tries held.world task
+AskedMayStop tries version held (fill query) = FillMayStop tries version held.world query
+AskedMayStop tries version held (place query None host) = PlaceMayStop tries version held.world query host
+AskedMayStop tries version held (place query (Some name) host) = NamedPlaceMayStop tries version held query name host
+AskedMayStop tries version held (claim query token name) = ⊥
+AskedMayStop tries version held (release query token) = ⊥
+AskedMayStop tries version held (release_name name) = ⊥
+AskedMayStop tries version held (move name token) = ⊥
+AskedMayStop tries version held mark = ⊥
+AskedMayStop tries version held back = ⊥
+AskedMayStop tries version held usages = ⊥
+AskedMayStop tries version held (left_at host) = ⊥
+AskedMayStop tries version held help = ⊥
+AskedMayStop tries version held nothing = ⊥
+AskedMayStop tries version held unknown = ⊥
+AskedMayStop tries version held wrong_number = ⊥
 
 -- a search for what bytes give
-unfoldable pub GivenMayStop : Option ℕ → Version → World → Given → Type 0
-GivenMayStop tries version world (line text) = AskedMayStop tries version world (asked_of version text)
-GivenMayStop tries version world too_long = ⊥
-GivenMayStop tries version world end = ⊥
+unfoldable pub GivenMayStop : Option ℕ → Version → Held → Given → Type 0
+GivenMayStop tries version held (line text) = AskedMayStop tries version held (asked_of version text)
+GivenMayStop tries version held too_long = ⊥
+GivenMayStop tries version held end = ⊥
 
 -- A stop of a line is what was written of its output where its search stopped; none, where the line is answered whole.
 
@@ -53,7 +67,7 @@ GivenMayStop tries version world end = ⊥
 abbrev pub MayStopAt : Option ℕ → Version → Held → Given → Option (List ℕ) → Type 0
 MayStopAt tries version held given None = ⊤
 MayStopAt tries version held given (Some written) =
-    GivenMayStop tries version held.world given × (more : List ℕ) × (output_of (turn_of version held given).answer ≡ written ++ more)
+    GivenMayStop tries version held given × (more : List ℕ) × (output_of (turn_of version held given).answer ≡ written ++ more)
 
 -- ---- what is written
 

@@ -9,14 +9,18 @@ use Rattle.ac_query.specs.Pairs.{pairs_of}
 use Rattle.ac_query.specs.Pairs.Values.{ids_value}
 use Rattle.ac_fill.specs.Filled.{after, filled}
 use Rattle.ac_query.specs.declared.version.Version.{Version}
+use Rattle.ac_report.specs.Texts.{line as token_line_of}
 use Rattle.ac_rules.specs.Claims.{claimed, is_in_use, move_verdict, moved, released}
 use Rattle.ac_rules.specs.Judge.{judge}
+use Rattle.ac_rules.specs.Lists.{head_of}
 use Rattle.ac_rules.specs.Located.{places_of}
+use Rattle.ac_rules.specs.Pages.{ids_of}
 use Rattle.ac_rules.specs.Placed.{Placed, assigned}
 use Rattle.ac_rules.specs.declared.verdict.Verdict.{Verdict}
 use Rattle.ac_rules.specs.declared.verdict.Verdict.TheVariants as verdict
-use Rattle.ac_query.specs.Tokens.{token_fault}
-use Rattle.ac_run.specs.Answer.{Outcome, Says, answer_in, fills, past_query, refused, told, written}
+use Rattle.ac_query.specs.Tokens.{ids_text, token_fault}
+use Rattle.ac_search.specs.At.{rest_at}
+use Rattle.ac_run.specs.Answer.{Outcome, Says, answer_in, at_host, fills, past_query, refused, root_named, told, written}
 use Rattle.ac_run.specs.Lines.{token_line}
 use Rattle.ac_run.specs.Outputs.{verdict_text}
 use Rattle.ac_session.specs.Frames.{end_line, lines_written}
@@ -24,8 +28,9 @@ use Rattle.ac_session.specs.Questions.LineFaults.{fault_line, fault_status}
 use Rattle.ac_session.specs.Lines.{Given, line, too_long, end, is_newline, most_bytes, without_return}
 use Rattle.ac_session.specs.Helps.{help_text}
 use Rattle.ac_session.specs.LeftRows.{left_answer}
-use Rattle.ac_session.specs.Held.{Claim, Held, Named, standing}
-use Rattle.ac_session.specs.Questions.{Asked, job, fill, claim, release, release_name, move, usages, left_at, help, nothing, unknown, wrong_number, asked_of}
+use Rattle.ac_session.specs.Held.{Claim, Held, Mark, marked, standing}
+use Rattle.ac_session.specs.Marks.{restored}
+use Rattle.ac_session.specs.Questions.{Asked, job, fill, place, claim, release, release_name, move, mark, back, usages, left_at, help, nothing, unknown, wrong_number, asked_of}
 use Rattle.ac_session.specs.UsageRows.{usage_rows}
 use Rattle.ac_session.specs.declared.line_faults.LineFault.{LineFault}
 use Rattle.ac_session.specs.declared.line_faults.LineFault.TheVariants as fault
@@ -157,6 +162,30 @@ unfoldable pub fill_turn : Version → List ℕ → World → Turn World
 fill_turn version query world =
     settles 1 world (past_query (fills world.providers false) None version query) (after_fill world.providers (asked_by version (pairs_of query)))
 
+-- ---- one placement
+
+-- the first candidate; of those at a root, where one is named
+abbrev pub first_at : List Provider → Query → Option ℕ → Option (List ℕ)
+first_at all asked root = head_of (rest_at all asked root None)
+
+-- what is said of it: its token, where there is one
+abbrev pub placed_said : List Provider → Option (List ℕ) → Outcome
+placed_said all None = written [] 1
+placed_said all (Some list) = written (token_line_of all list) 0
+
+abbrev pub place_line : List Provider → Option ℕ → Says
+place_line all root asked ids = placed_said all (first_at all asked root)
+
+-- the first candidate for a query, at the root of the provider that is named, where one is
+abbrev pub list_placed : Version → List ℕ → Option (List ℕ) → World → List ℕ
+list_placed version query host world = unwrap_or (first_at world.providers (asked_by version (pairs_of query)) (root_named world.providers host)) []
+
+-- The first candidate is claimed, at the root of the provider that is named, where one is.
+unfoldable pub place_turn : Version → List ℕ → Option (List ℕ) → World → Turn World
+place_turn version query host world =
+    settles 0 world (past_query (at_host world.providers host (place_line world.providers)) None version query)
+    (claimed world.providers (assigned (asked_by version (pairs_of query)) (list_placed version query host world)))
+
 -- ---- claims by name
 
 -- the status of an answer, where there is one
@@ -169,26 +198,40 @@ abbrev pub is_done : Option ℕ → Bool
 is_done None = false
 is_done (Some status) = status == 0
 
--- a turn of the cloud, and the names stay
-abbrev pub with_names : Named → Turn World → Turn Held
-with_names named turn = record { answer = turn.answer; state = record { world = turn.state; named = named } }
+-- a turn of the cloud, and all else stays
+abbrev pub within : Held → Turn World → Turn Held
+within held turn = record { answer = turn.answer; state = record held { world = turn.state } }
 
 -- a turn of the cloud; where it is done, a name stands for this behind it
-abbrev pub with_name : List ℕ → Option Claim → Named → Turn World → Turn Held
-with_name name made named turn = with_names (if is_done (status_of turn.answer) then standing name made named else named) turn
+abbrev pub with_name : List ℕ → Option Claim → Held → Turn World → Turn Held
+with_name name made held turn =
+    within (record held { named = if is_done (status_of turn.answer) then standing name made held.named else held.named }) turn
 
 -- A claim with a name: where the name stands for one already, nothing is claimed.
 abbrev pub claimed_as : Version → List ℕ → List ℕ → List ℕ → Held → Option Claim → Turn Held
 claimed_as version query token name held (Some made) = answers held (written (codes "in use\n") 1)
-claimed_as version query token name held None = with_name name (Some (record { query = query; token = token })) held.named (claim_turn version query token held.world)
+claimed_as version query token name held None = with_name name (Some (record { query = query; token = token })) held (claim_turn version query token held.world)
 
 unfoldable pub named_claim_turn : Version → List ℕ → List ℕ → List ℕ → Held → Turn Held
 named_claim_turn version query token name held = claimed_as version query token name held (held.named name)
 
+-- the token of the first candidate
+abbrev pub token_placed : Version → List ℕ → Option (List ℕ) → World → List ℕ
+token_placed version query host world = ids_text (ids_of world.providers (list_placed version query host world))
+
+-- A placement with a name: the same.
+abbrev pub placed_as : Version → List ℕ → Option (List ℕ) → List ℕ → Held → Option Claim → Turn Held
+placed_as version query host name held (Some made) = answers held (written (codes "in use\n") 1)
+placed_as version query host name held None =
+    with_name name (Some (record { query = query; token = token_placed version query host held.world })) held (place_turn version query host held.world)
+
+unfoldable pub named_place_turn : Version → List ℕ → Option (List ℕ) → List ℕ → Held → Turn Held
+named_place_turn version query host name held = placed_as version query host name held (held.named name)
+
 -- What a name stands for is given back, and then it stands for nothing.
 abbrev pub released_as : Version → List ℕ → Held → Option Claim → Turn Held
 released_as version name held None = answers held (release_said false)
-released_as version name held (Some made) = with_name name None held.named (release_turn version made.query made.token held.world)
+released_as version name held (Some made) = with_name name None held (release_turn version made.query made.token held.world)
 
 unfoldable pub named_release_turn : Version → List ℕ → Held → Turn Held
 named_release_turn version name held = released_as version name held (held.named name)
@@ -197,22 +240,41 @@ named_release_turn version name held = released_as version name held (held.named
 abbrev pub moved_as : Version → List ℕ → List ℕ → Held → Option Claim → Turn Held
 moved_as version name token held None = answers held (release_said false)
 moved_as version name token held (Some made) =
-    with_name name (Some (record { query = made.query; token = token })) held.named (move_turn version made.query made.token token held.world)
+    with_name name (Some (record { query = made.query; token = token })) held (move_turn version made.query made.token token held.world)
 
 unfoldable pub named_move_turn : Version → List ℕ → List ℕ → Held → Turn Held
 named_move_turn version name token held = moved_as version name token held (held.named name)
+
+-- ---- marks
+
+-- What is held is marked.
+abbrev pub mark_turn : Held → Turn Held
+mark_turn held = answers (record held { marks = marked held.world held.named ∷ held.marks }) (written (codes "marked\n") 0)
+
+-- It is used again as much as at the last mark, and each name stands for what it stood for there; that mark is gone.
+abbrev pub back_to : Held → List Mark → Turn Held
+back_to held [] = answers held (written (codes "nothing marked\n") 1)
+back_to held (m ∷ marks) =
+    answers (record { world = record held.world { providers = restored m.used held.world.providers }; named = m.named; marks = marks }) (written (codes "undone\n") 0)
+
+abbrev pub back_turn : Held → Turn Held
+back_turn held = back_to held held.marks
 
 -- ---- turns
 
 -- the turn of what is asked
 abbrev pub turn_asked : Version → Held → Asked → Turn Held
 turn_asked version held (job task) = answers held (answer_in task held.world)
-turn_asked version held (fill query) = with_names held.named (fill_turn version query held.world)
-turn_asked version held (claim query token None) = with_names held.named (claim_turn version query token held.world)
+turn_asked version held (fill query) = within held (fill_turn version query held.world)
+turn_asked version held (place query None host) = within held (place_turn version query host held.world)
+turn_asked version held (place query (Some name) host) = named_place_turn version query host name held
+turn_asked version held (claim query token None) = within held (claim_turn version query token held.world)
 turn_asked version held (claim query token (Some name)) = named_claim_turn version query token name held
-turn_asked version held (release query token) = with_names held.named (release_turn version query token held.world)
+turn_asked version held (release query token) = within held (release_turn version query token held.world)
 turn_asked version held (release_name name) = named_release_turn version name held
 turn_asked version held (move name token) = named_move_turn version name token held
+turn_asked version held mark = mark_turn held
+turn_asked version held back = back_turn held
 turn_asked version held usages = answers held (usage_rows held.world.providers)
 turn_asked version held (left_at host) = answers held (left_answer held.world.providers host)
 turn_asked version held help = answers held (written help_text 0)

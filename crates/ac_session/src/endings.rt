@@ -1,5 +1,5 @@
 //! How answers end, and answers of which no more is to be said than that.
-ghost use Rattle.std.specs.Prelude.{◌≡◌, ◌≤◌, ◌++◌, ℕ, List, Option, Err, IfOk, OnErr, OnOk, Some};
+ghost use Rattle.std.specs.Prelude.{◌≡◌, ◌≤◌, ◌++◌, ℕ, List, Option, Err, IfOk, OnErr, OnOk, Some, false};
 ghost use Rattle.std.specs.Io.KnownBytes.{Appends, append_known};
 ghost use Rattle.ac_base.specs.Writing.{Pushes};
 ghost use Rattle.ac_base.specs.Devices.{Rises, TakesPart};
@@ -11,8 +11,8 @@ ghost use Rattle.ac_run.specs.Refusals.{line_of_asked, status_of_asked};
 ghost use Rattle.ac_run.specs.Run.{Delivers};
 ghost use Rattle.ac_session.specs.Escapes.{begun};
 ghost use Rattle.ac_session.specs.Frames.{lines_written};
-ghost use Rattle.ac_session.specs.Standing.{Gives, IsRefusal, TakesTurn, end_told, mark_of};
-ghost use Rattle.ac_session.specs.Turns.{output_of, settles};
+ghost use Rattle.ac_session.specs.Standing.{Gives, IsRefusal, TakesTurn, end_told, mark_of, status_told};
+ghost use Rattle.ac_session.specs.Turns.{is_done, output_of, settles};
 ghost use Rattle.ac_session.specs.declared.endings.Ending.TheVariants as Ending;
 
 use crate::escaping::Escaping;
@@ -173,9 +173,10 @@ pub(crate) fn given(written: Result<u8, PageFault>) -> Result<Ending, AnswerFaul
 
 /// A refusal in place of an answer; want of memory ends the session instead.
 pub(crate) fn refused(refusal: AskRefusal) -> Result<Ending, AnswerFault>
-    ensures { (o : Outcome) → IsRefusal refusal o → (most : ℕ) → most ≤ 1
+    ensures turn { (o : Outcome) → IsRefusal refusal o → (most : ℕ) → most ≤ 1
         → (world : World) (all : List Provider) (old : Option (List ℕ)) (count : ℕ)
         → TakesTurn ⊥ world (settles most world o all) result world old old count count }
+    ensures undone { IfOk result (λ end. is_done (status_told end) ≡ false) }
 {
     match refusal {
         AskRefusal::NoMemory => Err(AnswerFault::NoMemory),

@@ -1,13 +1,13 @@
 //! Laws of the definitions. Each function does nothing: its contract is the law.
 ghost use Rattle.ac_session.specs.Laws.Apart.{AnswersApart, BlanksComeOff, SessionsApart, StoppedApart};
-ghost use Rattle.ac_session.specs.Laws.{AskingLeavesAll, ClaimTurnsNarrow, ReadsBack, ReleaseTurnUndoes, ReleasedOnce, SessionsGoOn};
+ghost use Rattle.ac_session.specs.Laws.{AskingLeavesAll, BackToMark, ClaimTurnsNarrow, MarksStay, ReadsBack, ReleaseTurnUndoes, ReleasedOnce, SessionsGoOn};
 
 /// What is written as a line of words is read as these words, and what is written behind it is left.
 pub fn reads_back()
     ensures { ReadsBack }
 {}
 
-/// What is neither placements nor a claim, a release or a move leaves all as it was.
+/// What is no placement, claim, release or move, no mark and no way back leaves all as it was.
 pub fn asking_leaves_all()
     ensures { AskingLeavesAll }
 {}
@@ -25,6 +25,17 @@ pub fn release_turn_undoes()
 /// What a name that was released stands for isn't released again: who sends that twice is told so.
 pub fn released_once()
     ensures { ReleasedOnce }
+{}
+
+/// What neither marks nor goes back leaves the marks.
+pub fn marks_stay()
+    ensures { MarksStay }
+{}
+
+/// Whatever is asked behind a mark: where the marks are as they were behind it, `back` gives back all that was held before it, the cloud, the names and the
+/// marks.
+pub fn back_to_mark()
+    ensures { BackToMark }
 {}
 
 /// Who reads up to the first line that begins with `=` has read what is written for a line of a session, whatever it says and whatever stands behind it.

@@ -2,7 +2,7 @@
 ghost use Rattle.std.specs.Prelude.{◌≡◌, ◌∷◌, true, option_map};
 ghost use Rattle.std.specs.List.{before_first, list_any};
 ghost use Rattle.ac_run.specs.Tasks.{candidates, command_shown, list, tokens, verify, why};
-ghost use Rattle.ac_session.specs.Questions.{asked_by_name, asked_in, asked_of, asks, asks_about, asks_alone, asks_claim, asks_fill, asks_job, asks_left, asks_move, asks_query, asks_release, asks_search, behind_blank, claim_of, is_blank, is_logged, is_passed_over, move, name_of, named_of, one_of, part_of, query_words, release_name, search_of, two_of, words_behind, words_of};
+ghost use Rattle.ac_session.specs.Questions.{asked_by_name, asked_in, asked_of, asks, asks_about, asks_alone, asks_claim, asks_fill, asks_job, asks_left, asks_move, asks_place, asks_query, asks_release, asks_search, behind_blank, claim_of, is_blank, is_logged, is_passed_over, maybe_name, move, name_of, named_of, one_of, part_of, query_words, release_name, search_of, two_of, words_behind, words_of};
 
 use ac_query::Version;
 use ac_run::{Command, Job, has_path, past_mark};
@@ -15,6 +15,12 @@ pub enum Question<'a> {
     /// To place a query again and again, and to take what each placement asks.
     Fill {
         query: &'a str,
+    },
+    /// To take what the first candidate asks, perhaps the first at the root of a host. A name may stand for it.
+    Place {
+        query: &'a str,
+        name: Option<&'a str>,
+        host: Option<&'a str>,
     },
     /// To take what a token names. A name may stand for it.
     Claim {
@@ -36,6 +42,10 @@ pub enum Question<'a> {
         name: &'a str,
         token: &'a str,
     },
+    /// To mark what is held.
+    Mark,
+    /// To take back all since the last mark.
+    Back,
     /// The used amounts.
     Usages,
     /// What is left of all inventories, or of those of a host's tree.
@@ -327,6 +337,30 @@ fn fill(rest: Option<&str>) -> Question<'_>
     }
 }
 
+// A word that may stand there, and is a name then.
+fn maybe_name(word: Option<&str>) -> Option<Option<&str>>
+    ensures { option_map (λ name. option_map (λ t. t.now) name) result
+        ≡ maybe_name (option_map (λ t. t.now) word.entry) }
+{
+    match word {
+        Some(word) => Some(Some(name(word)?)),
+        None => Some(None),
+    }
+}
+
+// A placement of the first candidate, perhaps with a name, and at a host.
+fn place(rest: Option<&str>) -> Question<'_>
+    ensures { asked_in result ≡ asks_place (query_words (option_map (λ t. t.now) rest.entry)) }
+{
+    let Some((query, word, host)) = search(rest) else {
+        return Question::WrongNumber;
+    };
+    match maybe_name(word) {
+        Some(name) => Question::Place { query, name, host },
+        None => Question::WrongNumber,
+    }
+}
+
 // A claim of what a token names, perhaps with a name.
 fn claim(rest: Option<&str>) -> Question<'_>
     ensures { asked_in result ≡ asks_claim (query_words (option_map (λ t. t.now) rest.entry)) }
@@ -405,6 +439,7 @@ fn question_by_name<'a>(version: Version, name: &str, rest: Option<&'a str>) -> 
         "tokens" => tokens(version, rest),
         "list" => list(version, rest),
         "fill" => fill(rest),
+        "place" => place(rest),
         "count" => over_query(Command::Fill { sum: true }, version, rest),
         "verify" => verify(version, rest),
         "explain" => over_query(Command::Explain, version, rest),
@@ -421,6 +456,8 @@ fn question_by_name<'a>(version: Version, name: &str, rest: Option<&'a str>) -> 
         "claim" => claim(rest),
         "release" => release(rest),
         "move" => move_to(rest),
+        "mark" => alone(Question::Mark, rest),
+        "back" => alone(Question::Back, rest),
         "usages" => alone(Question::Usages, rest),
         "left" => left(rest),
         "help" => alone(Question::Help, rest),

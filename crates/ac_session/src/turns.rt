@@ -25,14 +25,16 @@ ghost use Rattle.ac_session.specs.Helps.{help_text};
 ghost use Rattle.ac_session.specs.LeftRows.{left_answer};
 ghost use Rattle.ac_session.specs.Lines.{Given};
 ghost use Rattle.ac_session.specs.Reading.{given_by};
-ghost use Rattle.ac_session.specs.Tries.{AskedMayStop, FillMayStop, GivenMayStop, JobMayStop};
-ghost use Rattle.ac_session.specs.Turns.{after_fill, claim_said, claim_turn, fill_turn, move_said, move_turn, places_named, release_said, release_turn, settles, turn_asked, turn_of};
+ghost use Rattle.ac_session.specs.Tries.{AskedMayStop, FillMayStop, GivenMayStop, JobMayStop, PlaceMayStop};
+ghost use Rattle.ac_session.specs.Turns.{after_fill, back_turn, claim_said, claim_turn, fill_turn, mark_turn, move_said, move_turn, place_turn, places_named, release_said, release_turn, settles, turn_asked, turn_of};
 ghost use Rattle.ac_session.specs.UsageRows.{usage_rows};
 ghost use Rattle.ac_session.specs.declared.endings.AnswerFault.TheVariants as AnswerFault;
 
 mod held;
+mod marks;
 mod named;
 mod names;
+mod place;
 
 use crate::endings::{AnswerFault, Ending, broken_off, given, refused, write_said};
 use crate::help::push_help;
@@ -40,7 +42,11 @@ use crate::left::write_left;
 use crate::line_faults::LineFault;
 use crate::lines::Next;
 use crate::questions::{Question, read_question};
-use crate::turns::named::{answer_named_claim, answer_named_move, answer_named_release};
+use crate::turns::marks::Mark;
+use crate::turns::named::{
+    answer_named_claim, answer_named_move, answer_named_place, answer_named_release,
+};
+use crate::turns::place::place;
 use crate::usages::write_usages;
 use ac_base::{NoMemory, Sink};
 use ac_fill::{Filled, write_filled};
@@ -334,6 +340,52 @@ fn answer_fill<W: Sink>(
     }
 }
 
+// The answer to a placement of the first candidate, of those at the root of a host where one is named.
+fn answer_place<W: Sink>(
+    alloc: Global,
+    cloud: &mut Cloud,
+    version: Version,
+    query: &str,
+    host: Option<&str>,
+    tries: Option<u64>,
+    out: &mut W,
+) -> Result<Ending, AnswerFault>
+    ensures { TakesTurn (PlaceMayStop tries version (world_of cloud.old) query.now
+        (option_map (λ t. t.now) host.entry)) (world_of cloud.old)
+        (place_turn version query.now (option_map (λ t. t.now) host.entry) (world_of cloud.old))
+        result (world_of cloud.new) (W.taken out.old) (W.taken out.new) (W.failures out.old)
+        (W.failures out.new) }
+{
+    let (ending, _) = place(alloc, cloud, version, query, host, tries, out)?;
+    Ok(ending)
+}
+
+// Marks what is held.
+fn answer_mark<W: Sink>(alloc: Global, held: &mut Held, out: &mut W) -> Result<Ending, AnswerFault>
+    ensures { TakesTurn ⊥ (held_of held.old) (mark_turn (held_of held.old)) result
+        (held_of held.new) (W.taken out.old) (W.taken out.new) (W.failures out.old)
+        (W.failures out.new) }
+{
+    let made = Mark::new(alloc, &held.cloud, &held.names)?;
+    if held.marks.push(made).is_err() {
+        return Err(AnswerFault::NoMemory);
+    }
+    write_said(out, b"marked\n", 0)
+}
+
+// Takes back all since the last mark.
+fn answer_back<W: Sink>(held: &mut Held, out: &mut W) -> Result<Ending, AnswerFault>
+    ensures { TakesTurn ⊥ (held_of held.old) (back_turn (held_of held.old)) result
+        (held_of held.new) (W.taken out.old) (W.taken out.new) (W.failures out.old)
+        (W.failures out.new) }
+{
+    let Some(last) = held.marks.pop() else {
+        return write_said(out, b"nothing marked\n", 1);
+    };
+    held.names = last.restore(&mut held.cloud);
+    write_said(out, b"undone\n", 0)
+}
+
 // The table of usages.
 fn answer_usages<W: Sink>(alloc: Global, cloud: &Cloud, out: &mut W) -> Result<Ending, AnswerFault>
     ensures { Gives ⊥ (Some (usage_rows (providers_of cloud.now))) result
@@ -386,7 +438,7 @@ fn answer_help<W: Sink>(out: &mut W) -> Result<Ending, AnswerFault>
     Ok(Ending::Given(0))
 }
 
-// Answers a question, and changes the cloud where it is a claim, a release, a move or placements.
+// Answers a question, and changes what is held where it is a claim, a release, a move, a placement, a mark or a way back.
 fn answer_question<W: Sink>(
     alloc: Global,
     held: &mut Held,
@@ -396,7 +448,7 @@ fn answer_question<W: Sink>(
     out: &mut W,
 ) -> Result<Ending, AnswerFault>
     ensures { TakesTurn
-        (AskedMayStop tries version (held_of held.old).world (asked_in question.entry))
+        (AskedMayStop tries version (held_of held.old) (asked_in question.entry))
         (held_of held.old) (turn_asked version (held_of held.old) (asked_in question.entry))
         result (held_of held.new) (W.taken out.old) (W.taken out.new) (W.failures out.old)
         (W.failures out.new) }
@@ -405,6 +457,16 @@ fn answer_question<W: Sink>(
     match question {
         Question::Job(job) => answer_job(alloc, cloud, job, tries, out),
         Question::Fill { query } => answer_fill(alloc, cloud, version, query, tries, out),
+        Question::Place {
+            query,
+            name: None,
+            host,
+        } => answer_place(alloc, cloud, version, query, host, tries, out),
+        Question::Place {
+            query,
+            name: Some(name),
+            host,
+        } => answer_named_place(alloc, held, version, query, name, host, tries, out),
         Question::Claim {
             query,
             token,
@@ -420,6 +482,8 @@ fn answer_question<W: Sink>(
         }
         Question::ReleaseName { name } => answer_named_release(alloc, held, version, name, out),
         Question::Move { name, token } => answer_named_move(alloc, held, version, name, token, out),
+        Question::Mark => answer_mark(alloc, held, out),
+        Question::Back => answer_back(held, out),
         Question::Usages => answer_usages(alloc, cloud, out),
         Question::Left { host } => answer_left(alloc, cloud, host, out),
         Question::Help => answer_help(out),
@@ -441,7 +505,7 @@ pub(crate) fn answer_next<W: Sink>(
     out: &mut W,
 ) -> Result<Ending, AnswerFault>
     ensures turn { (given : Given) → given_by next.entry ≡ Some given
-        → TakesTurn (GivenMayStop tries version (held_of held.old).world given)
+        → TakesTurn (GivenMayStop tries version (held_of held.old) given)
         (held_of held.old) (turn_of version (held_of held.old) given) result
         (held_of held.new) (W.taken out.old) (W.taken out.new) (W.failures out.old)
         (W.failures out.new) }

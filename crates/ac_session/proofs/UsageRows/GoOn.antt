@@ -138,7 +138,7 @@ module _ (t : Tables) (accepted : AreAccepted t) where
       let fits = both (entries_fit p) (list_all entries_fit all) fit in
       (known p id h.0 small.0 there.0 fits.0, all_known ids all h.1 small.1 there.1 fits.1)
 
-  classes_in_order : (ids : List ℕ) (all : List Provider) → AreStated t ids all → HaveClassesInOrder all
+  pub classes_in_order : (ids : List ℕ) (all : List Provider) → AreStated t ids all → HaveClassesInOrder all
   classes_in_order [] [] h ix low = absurd (omega arith)
   classes_in_order [] (p ∷ all) h ix low = absurd h
   classes_in_order (id ∷ ids) [] h ix low = absurd h

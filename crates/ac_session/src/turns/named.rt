@@ -1,12 +1,13 @@
 //! Claims by name: a name stands for one until it is released.
-ghost use Rattle.std.specs.Prelude.{◌≡◌, ℕ, List, None, Option, Some};
-ghost use Rattle.ac_cloud.specs.World.{World};
-ghost use Rattle.ac_session.specs.Held.{claim_shown, held_of, holding, named_in};
-ghost use Rattle.ac_session.specs.Standing.{TakesTurn, status_told};
-ghost use Rattle.ac_session.specs.Turns.{Turn, is_done, named_claim_turn, named_move_turn, named_release_turn, with_name};
+ghost use Rattle.std.specs.Prelude.{◌≡◌, None, Some, option_map};
+ghost use Rattle.ac_session.specs.Held.{claim_shown, held_of, named_in};
+ghost use Rattle.ac_session.specs.Standing.{IsNamed, TakesTurn, status_told};
+ghost use Rattle.ac_session.specs.Tries.{NamedPlaceMayStop};
+ghost use Rattle.ac_session.specs.Turns.{is_done, named_claim_turn, named_move_turn, named_place_turn, named_release_turn};
 
 use super::held::Held;
 use super::names::{Claim, Names};
+use super::place::place;
 use super::{answer_claim, answer_move, answer_release};
 use crate::endings::{AnswerFault, Ending, write_said};
 use ac_base::Sink;
@@ -31,11 +32,8 @@ fn name_made(
     made: Claim,
     answered: Result<Ending, AnswerFault>,
 ) -> Result<Ending, AnswerFault>
-    ensures { (world now : World) (turn : Turn World) (a b : Option (List ℕ)) (n m : ℕ)
-        → TakesTurn ⊥ world turn answered now a b n m
-        → TakesTurn ⊥ (holding world (named_in names.old))
-        (with_name name.now (Some (claim_shown made)) (named_in names.old) turn) result
-        (holding now (named_in names.new)) a b n m }
+    ensures { IsNamed name.now (Some (claim_shown made)) answered result (named_in names.old)
+        (named_in names.new) }
 {
     match answered {
         Ok(ending) => {
@@ -57,11 +55,7 @@ fn name_gone(
     name: &str,
     answered: Result<Ending, AnswerFault>,
 ) -> Result<Ending, AnswerFault>
-    ensures { (world now : World) (turn : Turn World) (a b : Option (List ℕ)) (n m : ℕ)
-        → TakesTurn ⊥ world turn answered now a b n m
-        → TakesTurn ⊥ (holding world (named_in names.old))
-        (with_name name.now None (named_in names.old) turn) result
-        (holding now (named_in names.new)) a b n m }
+    ensures { IsNamed name.now None answered result (named_in names.old) (named_in names.new) }
 {
     match answered {
         Ok(ending) => {
@@ -97,6 +91,37 @@ pub(super) fn answer_named_claim<W: Sink>(
     };
     let answered = answer_claim(alloc, &mut held.cloud, version, query, token, out);
     name_made(alloc, &mut held.names, name, made, answered)
+}
+
+/// The answer to a placement with a name, which stands for it from then on.
+pub(super) fn answer_named_place<W: Sink>(
+    alloc: Global,
+    held: &mut Held,
+    version: Version,
+    query: &str,
+    name: &str,
+    host: Option<&str>,
+    tries: Option<u64>,
+    out: &mut W,
+) -> Result<Ending, AnswerFault>
+    ensures { TakesTurn (NamedPlaceMayStop tries version (held_of held.old) query.now name.now
+        (option_map (λ t. t.now) host.entry)) (held_of held.old)
+        (named_place_turn version query.now (option_map (λ t. t.now) host.entry) name.now
+        (held_of held.old)) result (held_of held.new) (W.taken out.old) (W.taken out.new)
+        (W.failures out.old) (W.failures out.new) }
+{
+    if let Some(_) = held.names.find(name) {
+        return write_said(out, b"in use\n", 1);
+    }
+    let cloud = &mut held.cloud;
+    let (ending, token) = match place(alloc, cloud, version, query, host, tries, out) {
+        Ok(placed) => placed,
+        Err(fault) => return Err(fault),
+    };
+    let Ok(made) = Claim::new(alloc, query, &token) else {
+        return Err(AnswerFault::NoMemory);
+    };
+    name_made(alloc, &mut held.names, name, made, Ok(ending))
 }
 
 /// The answer to a release of what a name stands for.

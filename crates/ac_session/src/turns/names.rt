@@ -7,7 +7,7 @@ use std::alloc::Global;
 use std::collections::BTreeMap;
 
 /// A claim: the query and the token by which it was made.
-#[derive(Drop)]
+#[derive(Clone, Drop)]
 pub(crate) struct Claim {
     pub(super) query: String,
     pub(super) token: String,
@@ -40,6 +40,14 @@ impl Names {
         Names {
             claims: BTreeMap::new(alloc),
         }
+    }
+
+    /// The same names, for the same claims.
+    pub(super) fn copy(&self) -> Result<Names, NoMemory>
+        ensures { IfOk result (λ names. named_in names ≡ named_in self.now) }
+    {
+        let claims = self.claims.clone()?;
+        Ok(Names { claims })
     }
 
     /// The claim that a name stands for.

@@ -16,8 +16,8 @@ module _ (version : Version) (name : List ℕ) (held : Held) where
   by None none done = absurd cc
   by (Some claim) some done =
       let turn = release_turn version claim.query claim.token held.world in
-      let stands : (with_name name None held.named turn).state.named name ≡ None = ap (λ (b : Bool). (if b then standing name None held.named else held.named) name) done ∙ gone name held.named in
-      ap (released_as version name (with_name name None held.named turn).state) stands
+      let stands : (with_name name None held turn).state.named name ≡ None = ap (λ (b : Bool). (if b then standing name None held.named else held.named) name) done ∙ gone name held.named in
+      ap (released_as version name (with_name name None held turn).state) stands
 
 pub returns : goal.returns
 unfolding named_release_turn

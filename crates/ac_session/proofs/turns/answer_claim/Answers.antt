@@ -10,7 +10,7 @@ use Rattle.ac_session.proofs.turns.answer_claim.Goals as goal
 -- the query or the token is refused
 pub returns-in-Err : goal.returns-in-Err
 unfolding claim_turn
-returns-in-Err g c = c.refused.ensures _ (c.in-Err.ensures.fault (claim_line (providers_of c.args.cloud.now))) 0 (omega arith) _ _ _ _
+returns-in-Err g c = c.refused.ensures.turn _ (c.in-Err.ensures.fault (claim_line (providers_of c.args.cloud.now))) 0 (omega arith) _ _ _ _
 
 -- a provider isn't there
 pub returns : goal.returns

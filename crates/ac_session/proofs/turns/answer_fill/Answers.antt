@@ -10,7 +10,7 @@ pub returns-in-Err : goal.returns-in-Err
 unfolding fill_turn
 returns-in-Err g c =
     turn_weaker (λ no. absurd no) _ _ _ _ _ _ _ _
-    (c.refused.ensures _ (query_refused c.args.version c.args.query.now c.in-Err.refusal c.in-Err.ensures.fault (fills (providers_of c.args.cloud.now) false) None) 1 (omega arith) _ _ _ _)
+    (c.refused.ensures.turn _ (query_refused c.args.version c.args.query.now c.in-Err.refusal c.in-Err.ensures.fault (fills (providers_of c.args.cloud.now) false) None) 1 (omega arith) _ _ _ _)
 
 pub returns-in-Ok : goal.returns-in-Ok
 unfolding fill_turn

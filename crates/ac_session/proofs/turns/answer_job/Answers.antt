@@ -17,4 +17,4 @@ returns-in-Ok g c =
 pub returns-in-Err : goal.returns-in-Err
 returns-in-Err g c =
     gives_weaker (λ no. absurd no) _ _ _ _ _ _
-    (c.refused.ensures _ (wanted_refused (task_of c.args.job) (world_of c.args.cloud.now) c.in-Err.refusal c.in-Err.ensures.fault) 0 (omega arith) (world_of c.args.cloud.now) [] _ _).answer
+    (c.refused.ensures.turn _ (wanted_refused (task_of c.args.job) (world_of c.args.cloud.now) c.in-Err.refusal c.in-Err.ensures.fault) 0 (omega arith) (world_of c.args.cloud.now) [] _ _).answer

@@ -19,4 +19,4 @@ unfolding left_answer
 returns-in-Err g c =
     let all = providers_of c.args.cloud.now in
     let none : host_of all c.args.host.now ≡ Err c.in-Err.fault = ap (host_of all) (sym c.as_bytes.ensures.value) ∙ sym c.host.ensures ∙ c.in-Err.is in
-    rw none (c.refused.ensures _ (λ told. refl) 0 (omega arith) (world_of c.args.cloud.now) [] _ _).answer
+    rw none (c.refused.ensures.turn _ (λ told. refl) 0 (omega arith) (world_of c.args.cloud.now) [] _ _).answer

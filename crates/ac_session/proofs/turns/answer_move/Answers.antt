@@ -10,13 +10,13 @@ use Rattle.ac_session.proofs.turns.answer_move.Goals as goal
 -- the query or the token to move from is refused
 pub returns-in-Err : goal.returns-in-Err
 unfolding move_turn
-returns-in-Err g c = c.refused.ensures _ (c.in-Err.ensures.fault (move_line (providers_of c.args.cloud.now) c.args.to.now)) 0 (omega arith) _ _ _ _
+returns-in-Err g c = c.refused.ensures.turn _ (c.in-Err.ensures.fault (move_line (providers_of c.args.cloud.now) c.args.to.now)) 0 (omega arith) _ _ _ _
 
 -- the token to move to is refused
 pub returns-in-Err-read_places : goal.returns-in-Err-read_places
 unfolding move_turn
 returns-in-Err-read_places g c =
-    c.refused-in-Err-read_places.ensures _
+    c.refused-in-Err-read_places.ensures.turn _
     (move_refused c.args.version c.args.query.now c.args.from.now c.args.to.now (world_of c.args.cloud.now) (asked_of c.in-Ok.read.0) _ None c.in-Ok.ensures.asked c.in-Ok.ensures.list c.in-Ok.ensures.said
     c.in-Err-read_places.refusal c.in-Err-read_places.ensures.fault)
     0 (omega arith) _ _ _ _

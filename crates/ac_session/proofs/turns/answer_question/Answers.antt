@@ -1,5 +1,5 @@
 use Rattle.std.proofs.Common.{refl}
-use Rattle.ac_session.proofs.Named.{names_stay}
+use Rattle.ac_session.proofs.Named.{all_stays}
 use Rattle.ac_session.proofs.Written.{ends_so, turn_same}
 use Rattle.ac_session.proofs.turns.answer_question.Goals as goal
 
@@ -16,10 +16,10 @@ pub returns-in-Help : goal.returns-in-Help
 returns-in-Help g c = rw c.in-Help.is (turn_same _ _ _ _ _ _ _ _ c.answer_help.ensures)
 
 pub returns-in-Fill : goal.returns-in-Fill
-returns-in-Fill g c = rw c.in-Fill.is (names_stay _ _ _ _ _ _ _ _ _ _ c.answer_fill.ensures)
+returns-in-Fill g c = rw c.in-Fill.is (all_stays _ _ _ _ _ _ _ _ _ _ _ c.answer_fill.ensures)
 
 pub returns-in-Release : goal.returns-in-Release
-returns-in-Release g c = rw c.in-Release.is (names_stay _ _ _ _ _ _ _ _ _ _ c.answer_release.ensures)
+returns-in-Release g c = rw c.in-Release.is (all_stays _ _ _ _ _ _ _ _ _ _ _ c.answer_release.ensures)
 
 pub returns-in-Nothing : goal.returns-in-Nothing
 returns-in-Nothing g c = rw c.in-Nothing.is (ends_so _ _ _ _ _ (λ e. cc) refl refl refl)

@@ -1,6 +1,6 @@
 use Rattle.std.proofs.Common.{◌∙◌, sym}
 use Rattle.ac_cloud.specs.Cloud.CloudWorld.{world_of}
-use Rattle.ac_session.proofs.Named.{found_none, found_some, named_same, wanting_first}
+use Rattle.ac_session.proofs.Named.{found_none, found_some, named_same, named_turn, wanting_first}
 use Rattle.ac_session.proofs.Written.{turn_same}
 use Rattle.ac_session.specs.Held.{named_in}
 use Rattle.ac_session.specs.Turns.{named_claim_turn}
@@ -19,4 +19,4 @@ pub returns : goal.returns
 unfolding named_claim_turn
 returns g c =
     let none = found_none c.find.result (named_in c.args.held.now.names c.args.name.now) c.find.ensures (sym c.is_some.ensures ∙ c.if-is_some.false) in
-    rw none (named_same c.args.name.now _ _ c.in-Ok.ensures (c.name_made.ensures (world_of c.args.held.now.cloud) _ _ _ _ _ _ c.answer_claim-answered.ensures))
+    rw none (named_same c.args.name.now _ _ c.in-Ok.ensures (named_turn _ _ _ _ _ _ _ _ _ _ _ _ _ c.answer_claim-answered.ensures _ _ c.name_made.ensures))

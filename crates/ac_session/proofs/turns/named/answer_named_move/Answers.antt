@@ -1,7 +1,7 @@
 use Rattle.std.proofs.Common.{◌∙◌, ℕ, List, ap, sym}
 use Rattle.std.specs.Option.{option_map}
 use Rattle.ac_cloud.specs.Cloud.CloudWorld.{world_of}
-use Rattle.ac_session.proofs.Named.{named_same, wanting_first}
+use Rattle.ac_session.proofs.Named.{named_same, named_turn, wanting_first}
 use Rattle.ac_session.proofs.Written.{turn_same}
 use Rattle.ac_session.specs.Held.{Claim, claim_shown}
 use Rattle.ac_session.specs.Turns.{named_move_turn}
@@ -23,4 +23,4 @@ returns g c =
     let as_claim : List ℕ → Claim = λ query. record { query = query; token = c.args.token.now } in
     let same = c.in-Ok.ensures ∙ ap as_claim c.deref.ensures in
     let takes = rw (c.deref-2.ensures, c.deref-3.ensures) at c.answer_move-answered.ensures in
-    rw found (named_same c.args.name.now _ _ same (c.name_made.ensures (world_of c.args.held.now.cloud) _ _ _ _ _ _ takes))
+    rw found (named_same c.args.name.now _ _ same (named_turn _ _ _ _ _ _ _ _ _ _ _ _ _ takes _ _ c.name_made.ensures))

@@ -1,0 +1,5 @@
+use Rattle.ac_session.proofs.Differing.{marks_stay}
+use Rattle.ac_session.proofs.laws.marks_stay.Goals as goal
+
+pub returns : goal.returns
+returns c = marks_stay
