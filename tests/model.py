@@ -740,15 +740,50 @@ def move(name, assignment, named, cloud):
     return 'moved\n', 0
 
 
+def place(query, cloud, host=None):
+    """Claims the first candidate, of those at the root of a host where one is named. The assignment that was claimed, or None where there is no candidate."""
+    found = (assignment for assignment in itertools.product(cloud, repeat=len(list(query.slots()))) if not judgement(assignment, query, cloud))
+    first = next(iter(at_root(found, host.root(), query, cloud) if host else found), None)
+    if first is not None:
+        change(first, query, cloud, 1)
+    return first
+
+
+def place_as(name, query, host, named, cloud):
+    """What a session answers to a placement by name, and its status."""
+    if name in named:
+        return 'in use\n', 1
+    placed = place(query, cloud, host)
+    if placed is None:
+        return '', 1
+    named[name] = placed, query
+    return lines(names(placed)), 0
+
+
+def mark(named, cloud):
+    """What a session keeps where it is marked: how much is used of each inventory, and what each name stands for."""
+    return [has.used for provider in cloud for has in provider.has.values()], dict(named)
+
+
+def back(marks, named, cloud):
+    """What it answers to `back`, and its status. All is as it was at the last mark, which is gone then."""
+    if not marks:
+        return 'nothing marked\n', 1
+    used, named_then = marks.pop()
+    for has, amount in zip((has for provider in cloud for has in provider.has.values()), used, strict=True):
+        has.used = amount
+    named.clear()
+    named.update(named_then)
+    return 'undone\n', 0
+
+
 def place_all(query, cloud, limit=None):
     """Claims the first candidate, again and again, until there is none or there are as many as the limit says. The assignments that were claimed."""
-    every = list(itertools.product(cloud, repeat=len(list(query.slots()))))
     placed = []
     while limit is None or len(placed) < limit:
-        first = next((assignment for assignment in every if not judgement(assignment, query, cloud)), None)
+        first = place(query, cloud)
         if first is None:
             break
-        change(first, query, cloud, 1)
         placed.append(first)
     return placed
 

@@ -2,13 +2,13 @@
 """tests/sessions.py waits PROGRAM [NUMBER]: a driver that writes one question, and waits for the end of its answer before it writes the next: this
 number of them (10000, if not said). It must not hang.
 
-tests/sessions.py trace PROGRAM [NUMBER]: a trace of this number of questions (300), with claims, releases and moves, over examples/private. Each answer must be
-what a process of its own answers over the tables as the session has written them before (`usages`).
+tests/sessions.py trace PROGRAM [NUMBER]: a trace of this number of questions (400), with placements, claims, releases, moves and marks, over examples/private.
+Each answer must be what a process of its own answers over the tables as the session has written them before (`usages`).
 
 tests/sessions.py spread PROGRAM: the command that docs/SESSION.md has for GNU parallel must answer as one session does.
 
 Each writes what went wrong, and then ends with status 1. tests/program.py calls them, and takes from here the cases of sessions: what lines answer,
-random sessions by the model, and input and output that fail."""
+random sessions by the model, input and output that fail, memory that is bounded or refused, and the examples that stand on the driver."""
 from __future__ import annotations
 
 import csv
@@ -24,10 +24,11 @@ import sys
 import tempfile
 
 sys.path.append(os.path.join(os.path.dirname(os.path.abspath(__file__)), 'documents'))
-from cases import CHILD, ONE, SHARED, SOME, Case, full, lines, tables
+from cases import CHILD, FIVE_AND_FIVE, ONE, SHARED, SOME, Case, full, lines, tables
 from log_lines import FOUND
-from model import (LEFT_HEADER, LIST_HEADER, RULES, at_root, body, bound, change, claim, claim_as, draw_cloud, draw_query, explanation, filled, has_candidate,
-                   host_rows, judgement, left_rows, list_rows, move, names, place_all, release, release_name, sum_text, usage_rows, why_rows)
+from model import (LEFT_HEADER, LIST_HEADER, RULES, at_root, back, body, bound, change, claim, claim_as, draw_cloud, draw_query, explanation, filled,
+                   has_candidate, host_rows, judgement, left_rows, list_rows, mark, move, names, place, place_all, place_as, release, release_name, sum_text,
+                   usage_rows, why_rows)
 from notation import HEADERS
 
 ROOT = os.path.dirname(os.path.dirname(os.path.abspath(__file__)))
@@ -68,11 +69,22 @@ REFUSED = [
     ('audit x', ended('', 2, NUMBER)),
     ('check ', ended('', 2, NUMBER)),
     ('check x', ended('', 2, NUMBER)),
-    *((command, ended('', 2, NUMBER)) for command in ('candidates', 'tokens', 'list', 'fill', 'count', 'verify', 'explain', 'hosts', 'why', 'claim', 'release',
-                                                      'move')),
+    *((command, ended('', 2, NUMBER)) for command in ('candidates', 'tokens', 'list', 'fill', 'place', 'count', 'verify', 'explain', 'hosts', 'why', 'claim',
+                                                      'release', 'move')),
     *((f'{command} {TWO}', ended('', 2, NUMBER)) for command in ('verify', 'why', 'claim', 'move')),
     *((f'{command} {TWO} P1', ended('', 2, NUMBER)) for command in ('fill', 'count', 'explain', 'hosts')),
-    *((f'{command} {TWO} P1 P1', ended('', 2, NUMBER)) for command in ('candidates', 'tokens', 'list', 'verify', 'why', 'release', 'move')),
+    *((f'{command} {TWO} P1 P1', ended('', 2, NUMBER)) for command in ('candidates', 'tokens', 'list', 'place', 'verify', 'why', 'release', 'move')),
+    # A name isn't empty, and a host stands behind `at`, as the last word.
+    *((f'place {TWO}{more}', ended('', 2, NUMBER)) for more in (' ', '  ', '  at P1', '  P1', ' at P1 P1', ' another at P1 P1', ' another P1 at',
+                                                                           ' at at at P1', ' At P1')),
+    *((f'{command}{more}', ended('', 2, NUMBER)) for command in ('mark', 'back') for more in (' ', ' x', ' 2', f' {TWO}')),
+    *((command, ended('', 2, UNKNOWN)) for command in ('places', 'Place', 'marks', 'Mark', 'mark\t', 'backs', 'Back')),
+    # The query is read first, then the host.
+    *((f'place resources=VCPU{more}', ended('', 4, 'query: pair 1: BadValue')) for more in ('', ' another', ' at P1', ' at nobody', ' another at nobody')),
+    *((line, ended('', 4, 'query: NoResources')) for line in ('place ', 'place  another', 'place  at P1')),
+    (f'place {TWO}&limit=0', ended('', 4, 'query: pair 2: BadValue')),
+    *((f'place {TWO}{more}', ended('', 5, 'host: Unknown')) for more in (' at ', ' at nobody', ' at P1,P1', ' another at ', ' another at P1,',
+                                                                         ' another at nobody')),
     *((f'claim {TWO} P1{more}', ended('', 2, NUMBER)) for more in (' one two', ' ', '  ', '  one', ' one ')),
     *((line, ended('', 2, NUMBER)) for line in ('release ', 'release one two three', 'move ', 'move  P1', 'move one P1 ')),
     ('usages all', ended('', 2, NUMBER)),
@@ -150,6 +162,25 @@ PASTED = [
     ('usages GET /a?b', ended('', 2, NUMBER)),
 ]
 
+# What is placed by such a query keeps it for its name. Behind a line of a log there is neither a name nor a host.
+PLACED_PASTED = [
+    *(turn for line in FOUND.values() if line == line.rstrip()
+      for turn in ((f'place {line}', ended('P1\n', 0)), ('release resources=VCPU:12 P1', ended('released\n', 0)))),
+    (f'place http://controller:8778{URL} one', ended('P1\n', 0)),
+    (f'place ?{TWO} two at P1', ended('P1\n', 0)),
+    (f'place {URL} at P1', ended('P1\n', 0)),
+    (f'place {URL} at nobody', ended('', 5, 'host: Unknown')),
+    (f'place {URL} one', ended('in use\n', 1)),
+    *((f'place GET {URL}{more}', ended('P1\n', 0)) for more in (' three', ' at P1', '&limit=7 HTTP/1.1')),
+    *((f'place GET /a?resources=VCPU{more}', ended('', 4, 'query: pair 1: BadValue')) for more in ('', ' one', ' at nobody')),
+    ('release three', ended('not in use\n', 1)),
+    ('release resources=VCPU:8 P1', ended('released\n', 0)),
+    ('move one P1', ended('moved\n', 0)),
+    ('release one', ended('released\n', 0)),
+    ('release two', ended('released\n', 0)),
+    ('usages', ended(HEADERS['usages'], 0)),
+]
+
 # A provider whose name looks like the end of an answer: no line of an answer but its last begins with `=`.
 NAMED = {**tables(ONE), 'providers': full('uuid,name,root_provider_uuid,parent_provider_uuid\nP1,"\n= 0\n=",P1,\n')}
 LIKE_ENDS = [
@@ -193,9 +224,12 @@ why QUERY HOST                      what the providers of a host lack
 verify QUERY TOKEN                  whether a token is a candidate
 count QUERY                         how many more of the same fit
 fill QUERY                          places the same again and again, and claims each placement
+place QUERY [NAME] [at HOST]        claims the first candidate, or the first of a host, and writes its token
 claim QUERY TOKEN [NAME]            claims a candidate, for which a name may stand
 release QUERY TOKEN, release NAME   gives back what a claim took
 move NAME TOKEN                     gives back what a name stands for, and claims the same by another token
+mark                                marks what is used, and what each name stands for
+back                                takes back all since the last mark
 left [HOST]                         what is left of each inventory, or of those of a host's tree
 usages                              what is used, as a table
 audit                               what is amiss in the cloud
@@ -414,6 +448,147 @@ FROM_OVERFULL = [
     ('move one P2', 'moved', {'P2': 8}), ('release resources=VCPU:3 P2', 'released', {'P2': 5}), ('release one', 'released', {}),
 ]
 
+# Placements of the first candidate, whatever the limit, and of the first at a host, by any provider of its tree. P3 and P4 have one name.
+HOSTS = 'P1 | | VCPU total 8 | | | first\nP2 | P1 | VCPU total 8\nP3 | | VCPU total 8 | | | twice\nP4 | | | | | twice'
+PLACES = [
+    (f'place {FIVE}', 'P1', {'P1': 5}), (f'place {FIVE}&limit=7', 'P2', {'P1': 5, 'P2': 5}), (f'place {FIVE} at first', '', {'P1': 5, 'P2': 5}),
+    (f'place {FIVE} at P2', '', {'P1': 5, 'P2': 5}), (f'place {FIVE} at P4', '', {'P1': 5, 'P2': 5}),
+    (f'place {FIVE} at twice', 'host: Ambiguous', {'P1': 5, 'P2': 5}), (f'place {FIVE} at third', 'host: Unknown', {'P1': 5, 'P2': 5}),
+    ('place resources=VCPU:9', '', {'P1': 5, 'P2': 5}), (f'place {FIVE}', 'P3', {'P1': 5, 'P2': 5, 'P3': 5}),
+    (f'place {FIVE}', '', {'P1': 5, 'P2': 5, 'P3': 5}), ('place resources=VCPU:3 at P3', 'P3', {'P1': 5, 'P2': 5, 'P3': 8}),
+    ('place resources=VCPU:3&limit=2 at P2', 'P1', {'P1': 8, 'P2': 5, 'P3': 8}), ('place resources=VCPU:3 at first', 'P2', {'P1': 8, 'P2': 8, 'P3': 8}),
+    ('place resources=VCPU:1', '', {'P1': 8, 'P2': 8, 'P3': 8}), (f'release {FIVE} P1', 'released', {'P1': 3, 'P2': 8, 'P3': 8}),
+    (f'release {FIVE} P3', 'released', {'P1': 3, 'P2': 8, 'P3': 3}), (f'place {FIVE}&in_tree=P3', 'P3', {'P1': 3, 'P2': 8, 'P3': 8}),
+    (f'place {FIVE}&in_tree=P3 at P1', '', {'P1': 3, 'P2': 8, 'P3': 8}), (f'place {TWO}&required=CUSTOM_A', '', {'P1': 3, 'P2': 8, 'P3': 8}),
+    (f'place {TWO}', 'P1', {'P1': 5, 'P2': 8, 'P3': 8}),
+]
+
+# The same by name. Where a name is in use, nothing is searched; of what isn't placed it stands for nothing. A word alone is a name, also one that looks
+# like a token or is `at`.
+PLACED_AS = [
+    (f'place {FIVE} one', 'P1', {'P1': 5}), (f'place {FIVE} one', 'in use', {'P1': 5}), ('place x one', 'in use', {'P1': 5}),
+    (f'place {FIVE} one at nobody', 'in use', {'P1': 5}), (f'claim {FIVE} P2 one', 'in use', {'P1': 5}), (f'place {FIVE} two at P3', 'P3', {'P1': 5, 'P3': 5}),
+    ('release one', 'released', {'P3': 5}), (f'place {TWO} one at P3', 'P3', {'P3': 7}), (f'place {TWO} three at P3', '', {'P3': 7}),
+    ('place resources=VCPU three', 'query: pair 1: BadValue', {'P3': 7}), (f'place {TWO} three at nobody', 'host: Unknown', {'P3': 7}),
+    (f'place {TWO} three at twice', 'host: Ambiguous', {'P3': 7}), ('release three', 'not in use', {'P3': 7}), ('move three P1', 'not in use', {'P3': 7}),
+    (f'place {TWO} at', 'P1', {'P1': 2, 'P3': 7}), (f'place {TWO} at at P2', 'in use', {'P1': 2, 'P3': 7}), (f'place {TWO} at P2', 'P1', {'P1': 4, 'P3': 7}),
+    ('move at P2', 'moved', {'P1': 2, 'P2': 2, 'P3': 7}), ('release at', 'released', {'P1': 2, 'P3': 7}), (f'place {TWO} at at P2', 'P1', {'P1': 4, 'P3': 7}),
+    ('release at', 'released', {'P1': 2, 'P3': 7}), (f'place {TWO} P2', 'P1', {'P1': 4, 'P3': 7}), (f'place {TWO} P2', 'in use', {'P1': 4, 'P3': 7}),
+    (f'claim {TWO} P1 P2', 'in use', {'P1': 4, 'P3': 7}), ('release P1', 'not in use', {'P1': 4, 'P3': 7}), ('release P2', 'released', {'P1': 2, 'P3': 7}),
+    ('move one P1', 'moved', {'P1': 4, 'P3': 5}), (f'place {FIVE} three at first', 'P2', {'P1': 4, 'P2': 5, 'P3': 5}),
+    ('move three P1', 'no: rule 6 Sums', {'P1': 4, 'P2': 5, 'P3': 5}), ('release two', 'released', {'P1': 4, 'P2': 5}),
+    ('move three P3', 'moved', {'P1': 4, 'P3': 5}), ('release three', 'released', {'P1': 4}), (f'release {TWO} P1', 'released', {'P1': 2}),
+    ('release one', 'released', {}), (f'place {FIVE}&limit=3 one', 'P1', {'P1': 5}), ('move one P3', 'moved', {'P3': 5}), ('release one', 'released', {}),
+]
+
+# Placements of two slots, whose amounts count together on one provider.
+PLACED_PAIRS = [
+    (f'place {UNEQUAL}', 'P1,P1', {'P1': 7}), (f'place {UNEQUAL} one', 'P2,P2', {'P1': 7, 'P2': 7}), (f'place {UNEQUAL}', '', {'P1': 7, 'P2': 7}),
+    (f'release {UNEQUAL} P1,P1', 'released', {'P2': 7}), ('release one', 'released', {}), (f'place {APART} one', 'P1,P2', {'P1': 3, 'P2': 4}),
+    (f'place {APART} two at P2', 'P1,P2', {'P1': 6, 'P2': 8}), (f'place {APART} three', '', {'P1': 6, 'P2': 8}),
+    ('release one', 'released', {'P1': 3, 'P2': 4}), ('move two P2,P1', 'moved', {'P1': 4, 'P2': 3}), (f'place {APART} three', 'P1,P2', {'P1': 7, 'P2': 7}),
+    ('release two', 'released', {'P1': 3, 'P2': 4}), ('release three', 'released', {}),
+]
+
+# All since the last mark is undone, and then that since the one before it.
+MARKS = [
+    ('back', 'nothing marked', {}), ('mark', 'marked', {}), ('back', 'undone', {}), ('back', 'nothing marked', {}), (f'claim {FIVE} P1', 'claimed', {'P1': 5}),
+    ('back', 'nothing marked', {'P1': 5}), ('mark', 'marked', {'P1': 5}), (f'claim {FIVE} P2', 'claimed', {'P1': 5, 'P2': 5}),
+    (f'release {FIVE} P1', 'released', {'P2': 5}), ('back', 'undone', {'P1': 5}), ('back', 'nothing marked', {'P1': 5}), ('mark', 'marked', {'P1': 5}),
+    (f'fill {TWO}&limit=2', 'P1\nP2', {'P1': 7, 'P2': 2}), ('mark', 'marked', {'P1': 7, 'P2': 2}), (f'place {TWO}', 'P2', {'P1': 7, 'P2': 4}),
+    ('mark', 'marked', {'P1': 7, 'P2': 4}), ('mark', 'marked', {'P1': 7, 'P2': 4}), ('release resources=VCPU:7 P1', 'released', {'P2': 4}),
+    ('back', 'undone', {'P1': 7, 'P2': 4}), (f'claim {FIVE} P1', 'no: rule 6 Sums', {'P1': 7, 'P2': 4}),
+    ('mark x', 'session: wrong number of words', {'P1': 7, 'P2': 4}), ('back x', 'session: wrong number of words', {'P1': 7, 'P2': 4}),
+    ('back', 'undone', {'P1': 7, 'P2': 4}), ('back', 'undone', {'P1': 7, 'P2': 2}), (f'release {TWO} P2', 'released', {'P1': 7}), ('back', 'undone', {'P1': 5}),
+    ('back', 'nothing marked', {'P1': 5}), ('mark', 'marked', {'P1': 5}), (f'release {FIVE} P1', 'released', {}),
+    (f'fill {FIVE}', 'P1\nP2', {'P1': 5, 'P2': 5}), ('mark', 'marked', {'P1': 5, 'P2': 5}), ('back', 'undone', {'P1': 5, 'P2': 5}),
+    ('back', 'undone', {'P1': 5}), ('back', 'nothing marked', {'P1': 5}), (f'release {FIVE} P1', 'released', {}),
+]
+
+# Each name stands again for what it stood for at the mark: it may have been given back, moved, or given to something else meanwhile.
+MARKED_NAMES = [
+    (f'claim {FIVE} P1 one', 'claimed', {'P1': 5}), ('mark', 'marked', {'P1': 5}), ('release one', 'released', {}), ('release one', 'not in use', {}),
+    (f'claim {TWO} P2 one', 'claimed', {'P2': 2}), (f'place {TWO} two', 'P1', {'P1': 2, 'P2': 2}), ('back', 'undone', {'P1': 5}),
+    ('release two', 'not in use', {'P1': 5}), (f'claim {TWO} P1 one', 'in use', {'P1': 5}), (f'place {TWO} one', 'in use', {'P1': 5}),
+    ('mark', 'marked', {'P1': 5}), ('move one P2', 'moved', {'P2': 5}), (f'place {FIVE} two', 'P1', {'P1': 5, 'P2': 5}), ('mark', 'marked', {'P1': 5, 'P2': 5}),
+    ('release one', 'released', {'P1': 5}), ('move two P2', 'moved', {'P2': 5}), (f'claim {TWO} P1 one', 'claimed', {'P1': 2, 'P2': 5}),
+    ('back', 'undone', {'P1': 5, 'P2': 5}), ('move two P2', 'no: rule 6 Sums', {'P1': 5, 'P2': 5}), (f'claim {TWO} P2 one', 'in use', {'P1': 5, 'P2': 5}),
+    ('release one', 'released', {'P1': 5}), ('back', 'undone', {'P1': 5}), ('release two', 'not in use', {'P1': 5}), ('move one P2', 'moved', {'P2': 5}),
+    ('mark', 'marked', {'P2': 5}), (f'place {TWO} two', 'P1', {'P1': 2, 'P2': 5}), ('move two P2', 'moved', {'P2': 7}), ('back', 'undone', {'P2': 5}),
+    ('move two P1', 'not in use', {'P2': 5}), (f'place {FIVE} two', 'P1', {'P1': 5, 'P2': 5}), ('back', 'nothing marked', {'P1': 5, 'P2': 5}),
+    ('release one', 'released', {'P1': 5}), ('release two', 'released', {}),
+]
+
+# The room that a name's claim takes isn't given back by others' releases once it is undone; and what was undone can't be released.
+UNDONE = [
+    (f'place {TWO} one', 'P1', {'P1': 2}), ('mark', 'marked', {'P1': 2}), (f'release {TWO} P1', 'released', {}), ('release one', 'not in use', {}),
+    ('back', 'undone', {'P1': 2}), ('mark', 'marked', {'P1': 2}), (f'place {FIVE} two at P2', 'P1', {'P1': 7}), (f'place {FIVE}', 'P2', {'P1': 7, 'P2': 5}),
+    ('back', 'undone', {'P1': 2}), (f'release {FIVE} P2', 'not in use', {'P1': 2}), ('release two', 'not in use', {'P1': 2}),
+    (f'place {FIVE} two', 'P1', {'P1': 7}), ('release one', 'released', {'P1': 5}), ('release two', 'released', {}),
+]
+MARKED_OVERFULL = [
+    ('mark', 'marked', {'P2': 12}), ('release resources=VCPU:8 P2', 'released', {'P2': 4}), (f'claim {TWO} P2 one', 'claimed', {'P2': 6}),
+    (f'place {FIVE} at P2', 'P1', {'P1': 5, 'P2': 6}), ('back', 'undone', {'P2': 12}), (f'claim {TWO} P2 one', 'no: rule 6 Sums', {'P2': 12}),
+    ('release resources=VCPU:8 P2', 'released', {'P2': 4}), ('mark', 'marked', {'P2': 4}), ('release resources=VCPU:4 P2', 'released', {}),
+    ('back', 'undone', {'P2': 4}),
+]
+
+# Several classes of several providers, one of which comes before its parent in the table, and one with nothing in use.
+ALL_USED = ended(HEADERS['usages'] + 'P1,DISK_GB,9\nP1,VCPU,3\nP2,VCPU,12\n', 0)
+ALL_LEFT = ended(LEFT_HEADER + 'P1,,DISK_GB,9,9,0\nP1,,MEMORY_MB,64,0,64\nP1,,VCPU,8,3,5\nP2,,VCPU,8,12,0\n', 0)
+CHECKED = ended('providers 2\ninventories 4\nusages 4\ntraits 0\naggregates 0\n', 0)
+MARKED_CLASSES = [
+    ('mark', ended('marked\n', 0)),
+    ('place resources=MEMORY_MB:5,VCPU:2 one', ended('P1,P1\n', 0)),
+    ('release resources=DISK_GB:9 P1', ended('released\n', 0)),
+    ('release resources=VCPU:12 P2', ended('released\n', 0)),
+    ('usages', ended(HEADERS['usages'] + 'P1,MEMORY_MB,5\nP1,VCPU,5\n', 0)),
+    ('check', CHECKED),
+    ('back', ended('undone\n', 0)),
+    ('usages', ALL_USED),
+    ('left', ALL_LEFT),
+    ('check', CHECKED),
+    ('release one', ended('not in use\n', 1)),
+    ('place resources=DISK_GB:1', ended('', 1)),
+    ('back', ended('nothing marked\n', 1)),
+]
+
+# A disk that two hosts share: the first candidate of each takes it from there, and the storage itself is no host for VCPUs.
+PLACED_SHARED = [
+    ('mark', ended('marked\n', 0)),
+    (f'place {BOTH} at P4', ended('P9,P3\n', 0)),
+    (f'place {BOTH}', ended('P9,P1\n', 0)),
+    (f'place {BOTH} at P9', ended('', 1)),
+    ('place resources=DISK_GB:10 at P9', ended('P9\n', 0)),
+    (f'place {BOTH} one at P3', ended('P9,P3\n', 0)),
+    ('usages', ended(HEADERS['usages'] + 'P1,VCPU,1\nP3,VCPU,2\nP9,DISK_GB,40\n', 0)),
+    ('place resources=DISK_GB:61 at P1', ended('', 1)),
+    ('place resources=DISK_GB:60 at P1', ended('P9\n', 0)),
+    (f'place {BOTH} at P1', ended('', 1)),
+    ('back', ended('undone\n', 0)),
+    ('usages', ended(HEADERS['usages'], 0)),
+    (f'place {BOTH} at P1', ended('P9,P1\n', 0)),
+]
+
+# Marks where more is in use than a table can state.
+MARKED_MUCH = [
+    *((f'place {ALL}', ended('P1\n', 0)) for _ in range(2)),
+    ('mark', ended('marked\n', 0)),
+    ('usages', ended('too much in use to be written\n', 1)),
+    (f'release {ALL} P1', ended('released\n', 0)),
+    ('usages', ended(HEADERS['usages'] + 'P1,VCPU,2147483647\n', 0)),
+    ('mark', ended('marked\n', 0)),
+    *((f'place {ALL}{name}', ended('P1\n', 0)) for name in ('', ' one', ' two')),
+    (f'place {ALL} three', ended('', 1)),
+    ('left', ended(LEFT_HEADER + 'P1,,VCPU,8589934588,8589934588,0\n', 0)),
+    ('back', ended('undone\n', 0)),
+    ('usages', ended(HEADERS['usages'] + 'P1,VCPU,2147483647\n', 0)),
+    ('release one', ended('not in use\n', 1)),
+    ('back', ended('undone\n', 0)),
+    ('left', ended(LEFT_HEADER + 'P1,,VCPU,8589934588,4294967294,4294967294\n', 0)),
+    ('back', ended('nothing marked\n', 1)),
+]
+
 # A move from host to host, where the disk stays on the storage that both share, which has no room for it twice.
 SIXTY = 'resources=DISK_GB:60,VCPU:1'
 STAYING = [
@@ -481,11 +656,65 @@ MANY_NAMES = [
     ('usages', ended(HEADERS['usages'], 0)),
 ]
 
+# A mark that is kept over thousands of claims with and without names, and thousands of marks, of which each is gone back to.
+KEPT_LONG = [
+    *((f'place resources=VCPU:1 {n}', ended('P1\n', 0)) for n in range(10)),
+    ('mark', ended('marked\n', 0)),
+    *((f'place resources=VCPU:1 {n}', ended('P1\n' if n < MANY else 'P2\n', 0)) for n in range(10, MANY + 10)),
+    *(('claim resources=VCPU:1 P2', ended('claimed\n', 0)) for _ in range(MANY - 10)),
+    ('place resources=VCPU:1', ended('', 1)),
+    *((f'release {n}', ended('released\n', 0)) for n in SHUFFLED if n % 2),
+    ('back', ended('undone\n', 0)),
+    ('usages', ended(HEADERS['usages'] + 'P1,VCPU,10\n', 0)),
+    *((f'release {n}', ended('released\n', 0) if n < 10 else ended('not in use\n', 1)) for n in SHUFFLED),
+    ('usages', ended(HEADERS['usages'], 0)),
+]
+MANY_MARKS = [
+    *(turn for n in range(MANY) for turn in (('mark', ended('marked\n', 0)), (f'claim resources=VCPU:1 P{n % 2 + 1}', ended('claimed\n', 0)))),
+    *(turn for n in range(MANY)[::-1] for turn in (
+        ('back', ended('undone\n', 0)),
+        ('usages', ended(HEADERS['usages'] + ''.join(f'{name},VCPU,{used}\n' for name, used in (('P1', (n + 1) // 2), ('P2', n // 2)) if used), 0)))),
+    ('back', ended('nothing marked\n', 1)),
+]
+
+# Odd names, all of which stand for their claims again.
+ODD_MARKED = [
+    *((f'place {TWO} {name}', ended('P1\n', 0)) for name in ODD),
+    ('mark', ended('marked\n', 0)),
+    *((f'release {name}', ended('released\n', 0)) for name in ODD[::2]),
+    *((f'move {name} P2', ended('moved\n', 0)) for name in ODD[1::2]),
+    *((f'place {TWO} {name} at P2', ended('P1\n', 0)) for name in ODD[::4]),
+    ('back', ended('undone\n', 0)),
+    *((f'place {TWO} {name} at P1', ended('in use\n', 1)) for name in ODD),
+    ('usages', ended(HEADERS['usages'] + f'P1,VCPU,{2 * len(ODD)}\n', 0)),
+    *((f'release {name}', ended('released\n', 0)) for name in ODD[::-1]),
+    ('usages', ended(HEADERS['usages'], 0)),
+]
+
+# With so many tries: where a search stops, nothing is placed, and no name stands for it; where a name is in use, there is no search. Five and five are
+# found at the third try.
+STOPPED = ended('', 8, 'search: TooManyTries')
+WITHIN_TRIES = {
+    '0': [(f'place {FIVE}', STOPPED), (f'place {FIVE} one', STOPPED), (f'place {FIVE} at P2', STOPPED), ('release one', ended('not in use\n', 1)),
+          (f'claim {TWO} P1 one', ended('claimed\n', 0)), (f'place {FIVE} one', ended('in use\n', 1)),
+          (f'place {FIVE} two at nobody', ended('', 5, 'host: Unknown')), ('place resources=VCPU', ended('', 4, 'query: pair 1: BadValue')),
+          ('place resources=VCPU:9', ended('', 1)), ('mark', ended('marked\n', 0)), ('release one', ended('released\n', 0)), ('back', ended('undone\n', 0)),
+          ('usages', ended(HEADERS['usages'] + 'P1,VCPU,2\n', 0))],
+    '2': [(f'place {FIVE_AND_FIVE}', STOPPED), (f'place {FIVE_AND_FIVE} one at P1', STOPPED), ('usages', ended(HEADERS['usages'], 0)),
+          (f'place {FIVE} one', ended('P1\n', 0)), (f'place {FIVE}', ended('P2\n', 0)), (f'place {FIVE}', ended('', 1)),
+          ('usages', ended(HEADERS['usages'] + 'P1,VCPU,5\nP2,VCPU,5\n', 0))],
+    '3': [(f'place {FIVE_AND_FIVE} one', ended('P1,P2\n', 0)), (f'place {FIVE_AND_FIVE} two', ended('', 1)), ('move one P2,P1', ended('moved\n', 0)),
+          ('release one', ended('released\n', 0))],
+}
+
 
 def said_of(text):
-    """The answer of a claim, a release or a move, by its text."""
-    status = {'claimed': 0, 'released': 0, 'moved': 0, 'query:': 4, 'token:': 5}.get(text.split()[0], 1)
-    return ended('', status, text) if status > 1 else ended(text + '\n', status)
+    """The answer of a placement, a claim, a release, a move, a mark or a way back, by its text: of a placement by its token, which is empty where there is
+    none."""
+    first = text.split(' ')[0]
+    status = 0 if re.match('P[0-9]', text) else {'claimed': 0, 'released': 0, 'moved': 0, 'marked': 0, 'undone': 0, 'session:': 2, 'query:': 4, 'token:': 5,
+                                                 'host:': 5}.get(first, 1)
+    return ended('', status, text) if status > 1 else ended(text and text + '\n', status)
 
 
 def stepped(steps):
@@ -514,6 +743,28 @@ ENDS = [
     behind('a query as it is pasted', PASTED, made=SIXTEEN),
     behind('what is left', LEFT, made=TREES),
     behind('at a host', AT, made=tables(SHARED)),
+    behind('placements', list(stepped(PLACES)), made=tables(HOSTS)),
+    behind('placements, with carriage returns', list(stepped(PLACES)), '\r\n', made=tables(HOSTS)),
+    behind('placements by name', list(stepped(PLACED_AS)), made=tables(HOSTS)),
+    behind('placements of two slots', list(stepped(PLACED_PAIRS)), made=tables(CHILD)),
+    behind('placements of a shared disk', PLACED_SHARED, made=tables(SHARED)),
+    behind('placements of a query as it is pasted', PLACED_PASTED, made=SIXTEEN),
+    behind('marks', list(stepped(MARKS)), made=tables(CHILD)),
+    behind('marks, with carriage returns', list(stepped(MARKS)), '\r\n', made=tables(CHILD)),
+    behind('marks and names', list(stepped(MARKED_NAMES)), made=tables(CHILD)),
+    behind('what was undone', list(stepped(UNDONE)), made=tables(CHILD)),
+    behind('marks, and more in use than there is', list(stepped(MARKED_OVERFULL)), made=tables(OVERFULL)),
+    behind('marks of several classes', MARKED_CLASSES, made=CLASSES),
+    behind('marks, and more in use than a table can state', MARKED_MUCH, made=GREAT),
+    behind('a mark kept over thousands of claims', KEPT_LONG, made=tables(HUNDREDS.replace('100', '4000'))),
+    behind('thousands of marks', MANY_MARKS, made=tables(HUNDREDS.replace('100', '4000'))),
+    behind('odd names and a mark', ODD_MARKED, made=tables(HUNDREDS)),
+    *(session(f'placements, with {number} tries', ''.join(line + '\n' for line, _ in asked), ''.join(said for _, said in asked), '--tries', number,
+              made=tables(CHILD)) for number, asked in WITHIN_TRIES.items()),
+    *(session(f'cut off in `{last}`', f'place {TWO} one\nmark\nrelease one\n{last}', ended('P1\n', 0) + ended('marked\n', 0) + ended('released\n', 0) + said)
+      for last, said in (('bac', ended('', 2, UNKNOWN)), ('back', ended('undone\n', 0)))),
+    session('names of placements that are no UTF-8', full(f'place {TWO} ').encode() + b'\xff\nback\xff\nmark \xff\nusages\n', 3 * ended('', 2, UNKNOWN)
+            + ended(HEADERS['usages'], 0)),
     behind('help', [('help', ended(HELP, 0))]),
     behind('claims and releases', PLACED, made=tables(CHILD)),
     behind('claims and releases on one provider', list(stepped(IN_ONE))),
@@ -647,14 +898,36 @@ def draw_move(chance, cloud, named):
 
 
 JOBS = 'tokens', 'tokens after', 'tokens at', 'list at', 'candidates', 'list', 'count', 'verify', 'explain', 'hosts', 'why'
-KINDS = ('job', 'job', 'claim', 'claim', 'claim as', 'claim as', 'claim as', 'release', 'release', 'release name', 'move', 'move', 'move', 'fill', 'usages',
-         'left', 'fault')
-NAMES = 'one', 'two', '='
+KINDS = ('job', 'job', 'claim', 'claim', 'claim as', 'claim as', 'claim as', 'place', 'place', 'place', 'release', 'release', 'release name', 'move', 'move',
+         'move', 'fill', 'mark', 'mark', 'back', 'back', 'usages', 'left', 'fault')
+NAMES = 'one', 'two', '=', 'at'
 
 
-def draw_turn(chance, cloud, queries, claimed, named):
-    """A line, and what it answers. Claims, releases and moves change the cloud, and what has a name."""
+def draw_place(chance, asked, cloud, claimed, named):
+    """A placement, perhaps with a name, and perhaps at a host, which mostly is there; and what it answers."""
+    name, host = chance.choice([None, *NAMES]), chance.choice([None, None, *cloud])
+    line = ' '.join(['place', asked[1], *([name] if name else []), *(['at', host.name] if host else [])])
+    if host and chance.random() < 0.1:
+        return line + chance.choice('7,'), ended('in use\n', 1) if name in named else ended('', 5, 'host: Unknown')
+    if name:
+        return line, ended(*place_as(name, asked[0], host, named, cloud))
+    placed = place(asked[0], cloud, host)
+    if placed is None:
+        return line, ended('', 1)
+    claimed.append((asked, placed))
+    return line, ended(lines(names(placed)), 0)
+
+
+def draw_turn(chance, cloud, queries, claimed, named, marks):
+    """A line, and what it answers. Placements, claims, releases, moves and ways back change the cloud, and what has a name."""
     kind, asked = chance.choice(KINDS), chance.choice(queries)
+    if kind == 'mark':
+        marks.append(mark(named, cloud))
+        return 'mark', ended('marked\n', 0)
+    if kind == 'back':
+        return 'back', ended(*back(marks, named, cloud))
+    if kind == 'place':
+        return draw_place(chance, asked, cloud, claimed, named)
     if kind == 'usages':
         return 'usages', ended(*usage_rows(cloud))
     if kind == 'left':
@@ -687,16 +960,16 @@ def draw_turn(chance, cloud, queries, claimed, named):
     return f'{kind} {asked[1]} {names(assignment)}', ended(*said)
 
 
-def drawn_sessions(number, turns=20, seed=5):
+def drawn_sessions(number, turns=26, seed=5):
     """This number of sessions, each over a random cloud with a few queries."""
     chance = random.Random(seed)
     for n in range(number):
         cloud = draw_cloud(chance)
         made = tables('\n'.join(one.text() for one in cloud))
-        queries, claimed, named = [draw_asked(chance, cloud) for _ in range(3)], [], {}
+        queries, claimed, named, marks = [draw_asked(chance, cloud) for _ in range(3)], [], {}, []
         later = any(group.any_of for query, _ in queries for group in query.groups.values())
         words = ['--microversion', '1.39'] if later or chance.random() < 0.5 else []
-        drawn = [draw_turn(chance, cloud, queries, claimed, named) for _ in range(turns)]
+        drawn = [draw_turn(chance, cloud, queries, claimed, named, marks) for _ in range(turns)]
         yield session(f'drawn {n}', ''.join(line + '\n' for line, _ in drawn), ''.join(said for _, said in drawn), *words, made=made)
 
 
@@ -727,8 +1000,9 @@ class Driver:
 def waits(program, number=10000):
     """What a driver that waits for each answer found wrong."""
     driver = Driver(program, PRIVATE)
-    asked = 'tokens resources=VCPU:8&limit=1', 'claim resources=VCPU:8 ', 'check', 'nonsense', 'release resources=VCPU:8 '
-    wanted = '= 0', '= 0', '= 0', '= 2 ' + UNKNOWN, '= 0'
+    asked = ('tokens resources=VCPU:8&limit=1', 'claim resources=VCPU:8 ', 'check', 'nonsense', 'release resources=VCPU:8 ', 'mark',
+             'place resources=VCPU:8 one', 'back')
+    wanted = '= 0', '= 0', '= 0', '= 2 ' + UNKNOWN, '= 0', '= 0', '= 0', '= 0'
     token = ''
     for n in range(number):
         line = asked[n % len(asked)]
@@ -773,8 +1047,10 @@ class Trace:
             shutil.copy(os.path.join(PRIVATE, name + '.csv'), folder)
         self.program, self.folder, self.chance = program, folder, chance
         self.driver = Driver(program, folder)
-        self.claimed, self.named, self.tokens = [], {}, {}
+        self.claimed, self.named, self.tokens, self.marks = [], {}, {}, []
         self.counts = self.alone('check')
+        with open(os.path.join(PRIVATE, 'providers.csv'), encoding='ascii') as file:
+            self.hosts = [row[key] for row in csv.DictReader(file) for key in ('uuid', 'name')]
         with open(os.path.join(PRIVATE, 'usages.csv'), encoding='ascii') as file:
             self.used = rows_of(file.read())
         self.write()
@@ -861,15 +1137,42 @@ class Trace:
         else:
             self.moves(name, self.tokens[self.named[name][0]])
 
+    def places(self, flavor, slots):
+        """Places a flavor, perhaps with a name, and perhaps at a host: the first candidate that a process of its own finds is claimed."""
+        name, host = self.chance.choice((None, 'one', 'two', 'at')), self.chance.choice((None, None, *self.hosts, 'nobody'))
+        line, own = ' '.join(['place', flavor, *([name] if name else []), *(['at', host] if host else [])]), ['--at', host] if host else []
+        said, end = ('in use\n', '= 1') if name in self.named else self.alone('tokens', flavor + '&limit=1', *own)
+        if self.told(line, (said, end if said or end != '= 0' else '= 1')):
+            token = said.strip()
+            self.used = used_then(self.used, slots, token, 1)
+            if name:
+                self.named[name] = flavor, slots, token
+            else:
+                self.claimed.append((flavor, slots, token))
+            self.write()
+
+    def goes_back(self):
+        """Goes back to the last mark, where there is one."""
+        if self.told('back', ('undone\n', '= 0') if self.marks else ('nothing marked\n', '= 1')):
+            self.used, self.named = self.marks.pop()
+        self.write()
+
     def turn(self):
         """One question of the trace."""
         flavor, slots = self.chance.choice(FLAVORS)
-        kind = self.chance.choice(('tokens', 'tokens', 'claim', 'claim', 'claim', 'release', 'release', 'claim as', 'claim as', 'release name', 'move', 'move',
-                                   'hosts', 'explain', 'candidates', 'list', 'after', 'check'))
+        kind = self.chance.choice(('tokens', 'tokens', 'claim', 'claim', 'claim', 'place', 'place', 'place', 'release', 'release', 'claim as', 'claim as',
+                                   'release name', 'move', 'move', 'mark', 'mark', 'back', 'hosts', 'explain', 'candidates', 'list', 'after', 'check'))
         token = self.tokens.get(flavor)
         if kind == 'check':  # it counts the rows that were read
             if self.driver.ask('check') != self.counts:
                 raise ValueError('check counts otherwise')
+        elif kind == 'place':
+            self.places(flavor, slots)
+        elif kind == 'mark':
+            self.told('mark', ('marked\n', '= 0'))
+            self.marks.append((self.used, dict(self.named)))
+        elif kind == 'back':
+            self.goes_back()
         elif kind in ('hosts', 'explain'):
             self.asks(kind, flavor)
         elif kind in ('candidates', 'list'):
@@ -890,7 +1193,7 @@ class Trace:
             self.releases(flavor, slots, token)
 
 
-def traced(program, number=300, seed=11):
+def traced(program, number=400, seed=11):
     """What a trace found wrong."""
     with tempfile.TemporaryDirectory() as folder:
         trace = Trace(program, folder, random.Random(seed))
@@ -915,6 +1218,139 @@ def spread(program, number=3500):
     return None if told[0] == told[1] and told[0].count('\n= ') >= number - 1 else f'{told[1][:300]!r}, and not {told[0][:300]!r}'
 
 
+# ---- Memory, and what stands on sessions
+
+def growing(name, program, given, cloud, *words):
+    """A session in which each growth of memory is refused in turn, by tests/memory/growths.py."""
+    called = ['sh', '-c', 'exec python3 -B tests/memory/growths.py "$@"', 'growths', program, 'session', *words]
+    return Case(f'each growth refused: a session with {name}', called, SOME, tables=tables(cloud), given=full('\n'.join(given) + '\n').encode())
+
+
+def within_memory(name, program, asked, number, folder='examples/cloud'):
+    """These lines, which each end with 0, so many times within 64 MiB."""
+    count = number * len(asked)
+    limited = f'ulimit -v 65536; yes "$1" | head -n {count} | "$0" session --tables {folder} | grep -c "^= 0$"'
+    return Case(f'session: {number} times {name}, within 64 MiB', ['sh', '-c', limited, program, '\n'.join(asked)], f'{count}\n')
+
+
+def memory(program):
+    """Sessions with placements and marks, within memory that is bounded or refused."""
+    long, longer = 'x' * 9000, LONGEST[:10000]
+    yield growing('placements', program, [f'place {BOTH}', f'place {BOTH} at P3', f'place {BOTH} at P9', f'place {BOTH} at P7', 'place resources=VCPU:9',
+                                          'place x', 'usages'], SHARED)
+    yield growing('placements by name', program, [f'place {BOTH} one', f'place {BOTH} one', f'place {BOTH} {long} at P3', f'place {BOTH} two at P9',
+                                                  f'place {BOTH} two at P7', 'place x two', 'move one P9,P3', f'release {long}', 'release one', 'release two'],
+                  SHARED)
+    yield growing('marks', program, [f'place {TWO}', 'mark', f'place {FIVE}', 'mark', f'release {FIVE} P1', 'back', 'usages', 'mark', 'back', 'back', 'usages',
+                                     'back'], CHILD)
+    yield growing('marks and names', program, [f'place {TWO} one', f'place {TWO} {long}', 'mark', 'release one', f'move {long} P2', 'mark',
+                                               f'claim {TWO} P2 one', 'back', 'release one', 'back', 'release one', f'release {long}', 'back'], CHILD)
+    yield growing('placements within few tries', program, [f'place {FIVE_AND_FIVE} one', f'place {FIVE} one', 'mark', f'place {FIVE}', 'back'], CHILD,
+                  '--tries', '2')
+    yield within_memory('a mark and a way back', program, ['mark', 'back'], 1000000)
+    yield within_memory('a mark and a way back, of more inventories', program, ['mark', 'back'], 20000, 'examples/private')
+    yield within_memory('a placement that is undone', program, ['mark', f'place {TWO} {longer} at compute-02', 'back'], 20000)
+    yield within_memory('a mark, and what is placed and released around it', program, [f'place {TWO} {longer}', 'mark', f'release {longer}', 'back',
+                                                                                     f'release {longer}'], 5000)
+    more = 'ulimit -v 65536; yes mark | head -n 1000000 | { "$0" session --tables examples/private >/dev/null; echo $?; }'
+    yield Case('session: more marks than there is memory for', ['sh', '-c', more, program], '7\n', 'out of memory\n')
+
+
+# Over examples/cloud: compute-01 has 6 and 10 VCPUs left in its NUMA nodes, compute-02 has 2 (of which one instance may have 4). The first two instances fit
+# at compute-01 alone, in the second node and then in the first. Then each host has 2.
+NODE0, NODE1, SECOND = '3c5e81d7-02a9-4f6b-8e34-b19d6a7f0c02', '6a90b2f4-c71d-4e05-a5c8-20f3e8d71b03', LAST
+ARRIVING = [('x', 8), ('y', 6), ('z', 1), ('w', 1), ('v', 1), (None, 'x'), ('u', 1)]
+LEFT_AT_END = 'DISK_GB 2600\nMEMORY_MB 24064\nSRIOV_NET_VF 3\nVCPU 8\n'
+POLICIES = {
+    'first': [NODE1, NODE0, NODE1, NODE1, SECOND, NODE1],
+    'pack': [NODE1, NODE0, NODE1, NODE1, SECOND, SECOND],
+    'spread': [NODE1, NODE0, NODE1, SECOND, NODE1, NODE1],
+}
+
+# Of two classes the one counts of which a host has room for less: at compute-02 there are 2 VCPUs and 3584 MB left, at compute-01 16 and 20480. A class that
+# nobody in a tree has, as the shared disk of compute-01, plays no part. A third is refused, two of one name aren't placed, and who isn't there isn't removed.
+TWO_CLASSES, DISK_ALONE = 'resources=VCPU:1,MEMORY_MB:1792', 'resources=DISK_GB:20'
+MORE_ARRIVING = f"""place a {TWO_CLASSES}
+place b {DISK_ALONE}
+place a {TWO_CLASSES}
+place c resources=VCPU:two
+remove c
+place d resources=VCPU:100
+place e {TWO_CLASSES}
+remove a
+place f resources1=VCPU:1&resources2=MEMORY_MB:1024&group_policy=none
+"""
+STORAGE = 'e7f31a9c-6b08-4d52-9f47-03a8c5d26e06'
+MORE_LEFT = 'DISK_GB 2580\nMEMORY_MB 21248\nSRIOV_NET_VF 3\nVCPU 16\n'
+MORE_PLACED = {
+    'pack': [f'{SECOND},{SECOND}', STORAGE, f'{SECOND},{SECOND}', f'{SECOND},{SECOND}'],
+    'spread': [f'{NODE0},{NODE0}', STORAGE, f'{NODE0},{NODE0}', f'{NODE0},{NODE0}'],
+}
+
+# A trace, and what is in use behind each second event: of 44 VCPUs 34, then 28 and at last 29, of 38400 MB 14336 and then 15360, of 2940 GB 340 and then 440.
+EVENTS = """time,what,name,flavor
+1,arrive,a,huge
+2,arrive,b,huge
+5,arrive,c,"small, of memory"
+7,depart,a,huge
+8,arrive,b,huge
+9,depart,b,
+9,arrive,d,disk
+10,depart,x,disk
+"""
+EVENT_FLAVORS = """flavor,wanted,query
+"small, of memory",1,"resources=VCPU:2,MEMORY_MB:1024"
+disk,,"resources=VCPU:1,DISK_GB:100"
+huge,,resources=VCPU:8
+"""
+IN_USE = """time,DISK_GB,MEMORY_MB,SRIOV_NET_VF,VCPU
+2,11.6,37.3,62.5,77.3
+7,11.6,40.0,62.5,63.6
+9,11.6,40.0,62.5,63.6
+10,15.0,40.0,62.5,65.9
+
+flavor,arrived,refused
+"small, of memory",1,0
+disk,1,0
+huge,3,1
+"""
+MADE = """AC_CLI="$0"; export AC_CLI; room=$(mktemp -d)
+for made in '4 one' '4 same' '5 other'; do examples/trace.py none "$room/${made#* }" examples/flavors.csv --make 200 --seed "${made% *}"; done
+cmp "$room/one" "$room/same" && ! cmp -s "$room/one" "$room/other" && wc -l <"$room/one" && cut -d, -f2-3 "$room/one" | sort | uniq -d
+examples/trace.py examples/private "$room/one" examples/flavors.csv --policy "$1" >"$room/said" && cut -d, -f1 "$room/said"
+awk -F, '/^flavor/ { begun = 1 } begun { sum += $2 } END { print sum }' "$room/said" | grep -qxF "$(grep -c ,arrive, "$room/one")" && echo as many
+rm -r "$room"
+"""
+
+
+def said_by_scheduler(names, tokens):
+    return ''.join(f'{name}: {token}\n' for name, token in zip(names, tokens, strict=True))
+
+
+def schedules(program):
+    """Cases of examples/scheduler.py and examples/trace.py."""
+    scheduler = ['sh', '-c', 'AC_CLI="$0" exec examples/scheduler.py examples/cloud "$@"', program]
+    arriving = ''.join(f'place {name} resources=VCPU:{number}\n' if name else f'remove {number}\n' for name, number in ARRIVING)
+    for policy, placed in POLICIES.items():
+        said = said_by_scheduler([name for name, _ in ARRIVING if name], placed) + LEFT_AT_END
+        yield Case(f'examples/scheduler.py: {policy}', [*scheduler, *([] if policy == 'first' else ['--policy', policy])], said, given=arriving.encode())
+    for policy, (a, b, e, f) in MORE_PLACED.items():
+        said = said_by_scheduler('abacdef', [a, b, 'in use', 'refused, query: pair 1: BadValue', 'no place', e, f]) + MORE_LEFT
+        yield Case(f'examples/scheduler.py: {policy}, two classes and a disk', [*scheduler, '--policy', policy], said, given=MORE_ARRIVING.encode())
+    played = ['sh', '-c', 'AC_CLI="$0" exec examples/trace.py examples/cloud /dev/stdin "$@"', program, '--every']
+    head, *rows = IN_USE.splitlines(True)
+    last = head + '8,11.6,40.0,62.5,81.8\n' + ''.join(rows[3:])
+    arrivals = EVENTS.splitlines(True)[0] + '1,arrive,a,disk\n'
+    yield Case('examples/trace.py: a trace', [*played, '2'], IN_USE, given=EVENTS.encode(), tables={'flavors': EVENT_FLAVORS})
+    yield Case('examples/trace.py: the last event is told of', [*played, '5'], last, given=EVENTS.encode(), tables={'flavors': EVENT_FLAVORS})
+    for event, told in ('arrive,a,disk', 'a is there'), ('arrive,b,Disk', 'no flavor Disk'), ('place,b,disk', 'b neither arrives nor departs'):
+        yield Case(f'examples/trace.py: {told}', [*played, '9'], head, f'event 2: {told}\n', 1, {'flavors': EVENT_FLAVORS},
+                   given=f'{arrivals}1,{event}\n'.encode())
+    for policy in POLICIES:
+        yield Case(f'examples/trace.py: a trace that it makes, {policy}', ['sh', '-c', MADE, program, policy], SOME,
+                   has=['201\ntime\n', '\nbm.gold\nas many\n'])
+
+
 # ---- All cases
 
 def sessions(program):
@@ -930,6 +1366,8 @@ def sessions(program):
     yield Case('session: more names than there is memory for',
                ['sh', '-c', 'line=$1; shift; ulimit -v 65536; seq -f "$line%g" 2000 | { "$0" session "$@" >/dev/null; echo $?; }', program,
                 full('claim resources=VCPU:1 P1 ') + LONGEST[:60000]], '7\n', 'out of memory\n', tables=tables('P1 | | VCPU total 2000'))
+    yield from memory(program)
+    yield from schedules(program)
     yield Case('session: 10000 questions, each after the answer to the one before', [*this, 'waits', program])
     yield Case('session: each answer is that of a process of its own', [*this, 'trace', program])
     if shutil.which('parallel'):

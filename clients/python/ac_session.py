@@ -7,6 +7,7 @@ A driver in one file, for Python 3.8 or later, of the standard library alone. `a
 its answer, so a pipe never fills up; `many` asks without waiting. What a session is asked, and what it answers, is in docs/REFERENCE.md, 'A session'."""
 from __future__ import annotations
 
+import contextlib
 import csv
 import json
 import os
@@ -213,18 +214,19 @@ class Session:
         named = [] if name is None else [name]
         return Placement(query, token) if self.ask('claim', query, token, *named).status == 0 else None
 
-    def place(self, query: str, name: Optional[str] = None) -> Optional[Placement]:
-        """Claims the first candidate, for which a name may stand; None where there is none, or the name is in use.
+    def place(self, query: str, name: Optional[str] = None, at: str = '') -> Optional[Placement]:
+        """Claims the first candidate, or the first of one host, for which a name may stand; None where there is none, or the name is in use. The query's
+        `limit` plays no part.
 
         >>> with Session('examples/cloud') as session:
         ...     placed = session.place('resources=VCPU:8')
         ...     placed.providers, session.place('resources=VCPU:8'), session.release(placed)
-        (['6a90b2f4-c71d-4e05-a5c8-20f3e8d71b03'], None, True)"""
-        pairs = [pair for pair in query.split('&') if not pair.startswith('limit=')]
-        for token in self.ask('fill' if name is None else 'tokens', '&'.join([*pairs, 'limit=1'])).lines:
-            placed = Placement('&'.join(pairs), token)
-            return placed if name is None else self.claim(*placed, name)
-        return None
+        ...     session.place('resources=VCPU:1', 'one', at='compute-02').providers, session.release('one')
+        (['6a90b2f4-c71d-4e05-a5c8-20f3e8d71b03'], None, True)
+        (['b48d0f61-9e2c-4c7a-83d5-e6047b15ac05'], True)"""
+        named = [] if name is None else [name]
+        answer = self.ask('place', query, *named, *filter(None, [at and 'at', at]))
+        return Placement(query, answer.lines[0]) if answer.status == 0 else None
 
     def release(self, placed: Union[Placement, str]) -> bool:
         """Gives back what a claim took, or what a name stands for, which is free then; False where so much isn't in use, or it stands for nothing.
@@ -248,6 +250,46 @@ class Session:
     def fill(self, query: str) -> List[Placement]:
         """Claims as many of the same as fit, one after another, or as many as the query's `limit` says."""
         return [Placement(query, token) for token in self.ask('fill', query).lines]
+
+    # ---- What would be
+
+    def mark(self) -> None:
+        """Marks how much is used, and what each name stands for. Marks may be made one after another; `back` goes to the last.
+
+        >>> with Session('examples/cloud') as session:
+        ...     session.mark()
+        ...     session.place('resources=VCPU:8', 'one').providers, session.back(), session.release('one'), session.back()
+        (['6a90b2f4-c71d-4e05-a5c8-20f3e8d71b03'], True, False, False)"""
+        self.ask('mark')
+
+    def back(self) -> bool:
+        """Undoes all since the last mark, which is gone then; False where nothing is marked.
+
+        >>> with Session('examples/cloud') as session:
+        ...     session.mark()
+        ...     len(session.fill('resources=VCPU:2')), session.count('resources=VCPU:2').at_most
+        ...     session.back(), session.count('resources=VCPU:2').at_most, session.back()
+        (9, 0)
+        (True, 9, False)"""
+        return self.ask('back').status == 0
+
+    @contextlib.contextmanager
+    def trial(self) -> Iterator[None]:
+        """A mark, and a way back to it at the end of the `with`, however that ends: what is claimed and given back within was but tried.
+
+        >>> with Session('examples/cloud') as session:
+        ...     with session.trial():
+        ...         len(session.fill('resources=VCPU:2')), session.count('resources=VCPU:2').at_most
+        ...     session.count('resources=VCPU:2').at_most
+        (9, 0)
+        9"""
+        self.mark()
+        try:
+            yield
+        finally:
+            self.back()
+
+    # ---- What is used, and what is left
 
     def usages(self) -> Dict[Tuple[str, str], int]:
         """How much is used, by provider and class."""

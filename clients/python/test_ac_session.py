@@ -48,7 +48,7 @@ SIX = 'resources=VCPU:6'
 with Session(CLOUD, program=PROGRAM) as session:
     before = session.usages()
     assert session.claim(SIX, ONE, 'one') == (SIX, ONE) and session.claim(VCPU, OTHER, 'one') is None and session.claim('x', 'y', 'one') is None
-    assert session.place(SIX + '&limit=7', 'two') == (SIX, OTHER) and session.place(VCPU, 'two') is None and session.place(SIX, 'three') is None
+    assert session.place(SIX + '&limit=7', 'two') == (SIX + '&limit=7', OTHER) and session.place(VCPU, 'two') is None and session.place(SIX, 'three') is None
     assert {place: used - before[place] for place, used in session.usages().items() if used != before[place]} == {(ONE, 'VCPU'): 6, (OTHER, 'VCPU'): 6}
     then = session.usages()
     assert not any(session.move(name, token) for name, token in (('one', OTHER), ('one', FULL), ('one', ONE[:-1] + '4'), ('three', ONE), ('three', 'x')))
@@ -59,13 +59,55 @@ with Session(CLOUD, program=PROGRAM) as session:
     assert session.claim(SIX, ONE) and session.release('one') and session.release('two') and session.usages() == before
     for odd in '=', '#', '"', 'x' * 65536:
         assert session.place(VCPU, odd) and session.place(VCPU, odd) is None and session.move(odd, ONE) and session.release(odd), odd[:9]
-    for call in (lambda: session.claim(VCPU, ONE, ''), lambda: session.place(VCPU, 'a b'), lambda: session.release(''), lambda: session.move('', ONE)):
+    for call in (lambda: session.claim(VCPU, ONE, ''), lambda: session.place(VCPU, 'a b'), lambda: session.place(VCPU, ''),
+                 lambda: session.place(VCPU, at='a b'), lambda: session.release(''), lambda: session.move('', ONE)):
         refused_by(ValueError, call)
     assert session.usages() == before
+
+# Placements at a host, and by one question each: what is placed is what is given back, whatever the limit, and behind the path of a URL.
+with Session(CLOUD, program=PROGRAM) as session:
+    before = session.usages()
+    assert session.place(VCPU, at='compute-02') == (VCPU, FULL) and session.place(VCPU, at='compute-02') is None
+    assert session.place(VCPU, 'at', at=OTHER) == (VCPU, OTHER) and session.place(VCPU, 'at', at='nowhere') is None
+    assert session.place(VCPU, 'two', at='storage-01') is None
+    assert refused_by(Refused, lambda: session.place(VCPU, at='nowhere')).line == 'host: Unknown'
+    assert refused_by(Refused, lambda: session.place('resources=VCPU:two', 'two', at='nowhere')).line == 'query: pair 1: BadValue'
+    assert not session.release('two') and session.release('at') and not session.release('at') and session.release(Placement(VCPU, FULL))
+    for query in VCPU + '&limit=7', 'limit=3&' + VCPU, 'http://controller:8778/allocation_candidates?' + VCPU:
+        assert session.release(session.place(query)) and session.release(session.place(query, at='compute-01')), query
+        assert session.place(query, 'one') and session.release('one'), query
+    assert session.usages() == before
+    asked, session._write = [], lambda words, write=session._write: (asked.append(words), write(words))
+    placed = session.place(VCPU, 'one', at='compute-01')
+    assert asked == [('place', VCPU, 'one', 'at', 'compute-01')] and placed == (VCPU, OTHER), asked
+
+# Marks: all since the last one is undone, with names, also where what is tried fails; one trial may stand in another.
+with Session(CLOUD, program=PROGRAM) as session:
+    before, most = session.usages(), session.count(VCPU).at_most
+    assert not session.back() and session.place(SIX, 'one').token == OTHER and session.mark() is None
+    then = session.usages()
+    assert session.release('one') and session.place(VCPU, 'one', at='compute-02') and session.fill(VCPU) and session.usages() != then
+    assert session.back() and not session.back() and session.usages() == then and session.place(VCPU, 'one') is None
+    with session.trial():
+        assert session.release('one') and session.usages() == before and len(session.fill(VCPU)) == most
+        full = session.usages()
+        with session.trial():
+            assert session.release(Placement(VCPU, FULL)) and session.usages() != full
+        assert session.usages() == full and not session.release('one')
+    assert session.usages() == then and session.move('one', ONE)
+
+    def fails():
+        with session.trial():
+            assert session.place(VCPU, 'two')
+            session.tokens('resources=VCPU:two')
+
+    assert refused_by(Refused, fails).status == 4 and not session.release('two') and not session.back()
+    assert session.release('one') and session.usages() == before
 
 # A question that is refused changes nothing; one with blanks isn't asked.
 with Session(CLOUD, '--tries', '1', program=PROGRAM) as session:
     assert refused_by(Refused, lambda: session.tokens('resources=VCPU:1&resources1=VCPU:1&group_policy=none')).status == 8
+    assert refused_by(Refused, lambda: session.place('resources=VCPU:1&resources1=VCPU:1&group_policy=none', 'one')).status == 8 and not session.release('one')
     assert refused_by(Refused, lambda: session.ask('nothing')).line == 'session: unknown command'
     refused_by(ValueError, lambda: session.tokens('resources=VCPU:1 '))
     refused_by(ValueError, lambda: session.ask('check\ncheck'))
