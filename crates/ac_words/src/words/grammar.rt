@@ -130,13 +130,14 @@ fn add_version<'a>(alloc: Global, command: Command<'a>) -> Result<Command<'a>, A
     ensures local { (fields_of command.entry).has_globals ≡ false
         → IfOk result (λ c. (fields_of c).has_globals ≡ false) }
 {
-    command.arg(option(
+    let command = command.arg(option(
         alloc,
         "microversion",
         "VERSION",
         "Reads the query by 1.36 (as do 1.37 and 1.38), or by 1.39: `required` may then be a list \
          `in:A,B`, which asks for one of its traits, and may be repeated [default: 1.36]",
-    ))
+    ))?;
+    Ok(command)
 }
 
 // Adds the options of a command with queries: those of a command over tables, and the version.
