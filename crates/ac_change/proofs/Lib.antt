@@ -1,0 +1,12 @@
+pub mod AfterEdit
+pub mod Built
+pub mod Clouds
+pub mod Common
+pub mod Followed
+pub mod Forests
+pub mod KeptTrees
+pub mod LinesRead
+pub mod Lists
+pub mod Rises
+pub mod Touching
+pub mod Trees

@@ -1,0 +1,21 @@
+-- What changes leave as it is.
+use Rattle.std.specs.Prelude.{◌≡◌, ◌<◌, ℕ, false, List, length, Option}
+use Rattle.ac_cloud.specs.World.{Provider, id_at, parent_of, provider_at, root_of}
+use Rattle.ac_change.specs.Changes.{Edit, Scope, edited_in, is_touched}
+
+-- The providers are the same, each in its tree.
+pub record AreSameTrees (all left : List Provider) : Type 0 where
+  pub count : length left ≡ length all
+  pub ids : (ix : ℕ) → id_at left ix ≡ id_at all ix
+  pub parents : (id : ℕ) → parent_of left id ≡ parent_of all id
+  pub roots : (id : ℕ) → root_of left id ≡ root_of all id
+
+-- An edit leaves all trees as they are.
+abbrev pub EditsKeepTrees : Type 0
+EditsKeepTrees = (all : List Provider) (scope : Scope) (e : Edit) → AreSameTrees all (edited_in all scope e)
+
+-- An edit leaves a provider as it is that it doesn't touch.
+abbrev pub OthersStay : Type 0
+OthersStay =
+    (all : List Provider) (scope : Scope) (e : Edit) (ix : ℕ) → ix < length all → is_touched all scope (provider_at all ix) ≡ false
+    → provider_at (edited_in all scope e) ix ≡ provider_at all ix
