@@ -21,12 +21,12 @@ abbrev pub places_in : List Provider → List (Option ℕ)
 places_in all = map (λ p. option_and_then (rank (ids_in all)) p.parent) all
 
 -- what has a place is there
-ranked : (ids : List ℕ) (q j : ℕ) → rank ids q ≡ Some j → (j < length ids) × (get_or ids j 0 ≡ q)
+pub ranked : (ids : List ℕ) (q j : ℕ) → rank ids q ≡ Some j → (j < length ids) × (get_or ids j 0 ≡ q)
 ranked ids q j e =
     let found = position-Some (λ p. p == q) ids j 0 (position_from-zero (λ p. p == q) ids ∙ e) in
     (found.0, are_equal (get_or ids j 0) q found.1)
 
-place_some : (o : Option ℕ) → is_some o ≡ true → (j : ℕ) × (o ≡ Some j)
+pub place_some : (o : Option ℕ) → is_some o ≡ true → (j : ℕ) × (o ≡ Some j)
 place_some None e = absurd (cc)
 place_some (Some j) e = (j, refl)
 

@@ -2,6 +2,7 @@ pub mod AfterEdit
 pub mod Built
 pub mod Clouds
 pub mod Common
+pub mod Fewer
 pub mod Followed
 pub mod Forests
 pub mod KeptTrees

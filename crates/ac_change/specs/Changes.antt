@@ -146,6 +146,10 @@ spoils_in all scope e = list_any (λ p. is_touched all scope p && spoils e p) al
 abbrev pub edit_fault : List Provider → Scope → Edit → Option ChangeKind
 edit_fault all scope e = option_or (scope_fault all scope) (if spoils_in all scope e then Some kind.ReservedOverTotal else None)
 
+-- the providers of the other trees
+abbrev pub without_tree : List Provider → ℕ → List Provider
+without_tree all r = filter (λ p. not (root_of all p.id == r)) all
+
 -- a value, unless something speaks against it
 abbrev pub unless : {X : Type 0} → Option ChangeKind → X → Result X ChangeKind
 unless None value = Ok value

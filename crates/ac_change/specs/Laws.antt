@@ -1,7 +1,8 @@
 -- What changes leave as it is.
 use Rattle.std.specs.Prelude.{◌≡◌, ◌<◌, ℕ, false, List, length, Option}
 use Rattle.ac_cloud.specs.World.{Provider, id_at, parent_of, provider_at, root_of}
-use Rattle.ac_change.specs.Changes.{Edit, Scope, edited_in, is_touched}
+use Rattle.ac_change.specs.Changes.{Edit, Scope, edited_in, is_touched, without_tree}
+use Rattle.ac_change.specs.Trees.{AreTrees}
 
 -- The providers are the same, each in its tree.
 pub record AreSameTrees (all left : List Provider) : Type 0 where
@@ -13,6 +14,15 @@ pub record AreSameTrees (all left : List Provider) : Type 0 where
 -- An edit leaves all trees as they are.
 abbrev pub EditsKeepTrees : Type 0
 EditsKeepTrees = (all : List Provider) (scope : Scope) (e : Edit) → AreSameTrees all (edited_in all scope e)
+
+-- Where a tree is gone, what is left are trees, and each provider that is left has its parent and its root.
+abbrev pub OtherTreesStay : Type 0
+OtherTreesStay =
+    (all : List Provider) (r : ℕ) → AreTrees all
+    → AreTrees (without_tree all r)
+    × ((ix : ℕ) → ix < length (without_tree all r)
+    → (parent_of (without_tree all r) (id_at (without_tree all r) ix) ≡ parent_of all (id_at (without_tree all r) ix))
+    × (root_of (without_tree all r) (id_at (without_tree all r) ix) ≡ root_of all (id_at (without_tree all r) ix)))
 
 -- An edit leaves a provider as it is that it doesn't touch.
 abbrev pub OthersStay : Type 0

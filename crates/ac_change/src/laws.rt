@@ -1,5 +1,5 @@
 //! Laws of changes. Each function does nothing: its contract is the law.
-ghost use Rattle.ac_change.specs.Laws.{EditsKeepTrees, OthersStay};
+ghost use Rattle.ac_change.specs.Laws.{EditsKeepTrees, OtherTreesStay, OthersStay};
 
 /// An edit leaves all trees as they are.
 pub fn edits_keep_trees()
@@ -9,4 +9,9 @@ pub fn edits_keep_trees()
 /// An edit leaves a provider as it is that it doesn't touch.
 pub fn others_stay()
     ensures { OthersStay }
+{}
+
+/// Where a tree is gone, what is left are trees, and each provider that is left has its parent and its root.
+pub fn other_trees_stay()
+    ensures { OtherTreesStay }
 {}
