@@ -109,7 +109,7 @@ ids_kept keep test (p ∷ all) same = elim (cases_Bool (keep p)) [
   | inr ne ↦ rw (ne, sym (same p) ∙ ne) (ids_kept keep test all same)
 ]
 
-all_kept : {X : Type 0} (P : X → Type 0) (keep : X → Bool) (xs : List X) → AllByRecursion P xs → AllByRecursion (λ x. P x × (keep x ≡ true)) (filter keep xs)
+pub all_kept : {X : Type 0} (P : X → Type 0) (keep : X → Bool) (xs : List X) → AllByRecursion P xs → AllByRecursion (λ x. P x × (keep x ≡ true)) (filter keep xs)
 all_kept P keep [] all = tt
 all_kept P keep (x ∷ xs) all = elim (cases_Bool (keep x)) [ inl e ↦ rw e ((all.0, e), all_kept P keep xs all.1) | inr ne ↦ rw ne (all_kept P keep xs all.1) ]
 
@@ -117,11 +117,11 @@ length_kept : {X : Type 0} (keep : X → Bool) (xs : List X) → length (filter 
 length_kept keep [] = omega arith
 length_kept keep (x ∷ xs) = let fewer = length_kept keep xs in elim (cases_Bool (keep x)) [ inl e ↦ rw e (omega (arith, fewer)) | inr ne ↦ rw ne (omega (arith, fewer)) ]
 
-firsts : {X : Type 0} (P Q : X → Type 0) (xs : List X) → AllByRecursion (λ x. P x × Q x) xs → AllByRecursion P xs
+pub firsts : {X : Type 0} (P Q : X → Type 0) (xs : List X) → AllByRecursion (λ x. P x × Q x) xs → AllByRecursion P xs
 firsts P Q [] all = tt
 firsts P Q (x ∷ xs) all = (all.0.0, firsts P Q xs all.1)
 
-at_all : (P : Provider → Type 0) (xs : List Provider) → ((ix : ℕ) → ix < length xs → P (get_or xs ix no_provider)) → AllByRecursion P xs
+pub at_all : (P : Provider → Type 0) (xs : List Provider) → ((ix : ℕ) → ix < length xs → P (get_or xs ix no_provider)) → AllByRecursion P xs
 at_all P [] holds = tt
 at_all P (x ∷ xs) holds = (holds zero (omega arith), at_all P xs (λ (ix : ℕ) (h : ix < length xs). holds (suc ix) (omega arith)))
 

@@ -8,6 +8,7 @@ pub mod Forests
 pub mod KeptTrees
 pub mod LinesRead
 pub mod Lists
+pub mod Removed
 pub mod Rises
 pub mod Touching
 pub mod Trees

@@ -55,7 +55,7 @@ module _ {X Y : Type 0} (f g : X → Y) where
       ap₂ (λ b c. b || c) (ap (λ y. test y x) head) (same_any test xs tail)
 
 -- roots are held as they are in the trees
-rooted_here : (list : List Held) → AreRooted list → map (λ h. h.root) list ≡ map (λ h. root_of (all_held list) h.id) list
+pub rooted_here : (list : List Held) → AreRooted list → map (λ h. h.root) list ≡ map (λ h. root_of (all_held list) h.id) list
 unfolding AreRooted all_held
 rooted_here list rooted = rooted ∙ map-map (λ p. root_of (all_held list) p.id) provider_held list
 

@@ -42,9 +42,10 @@ pub data Edit : Type 0 where
   leaves : ℕ → Edit
   sets : List ℕ → Setting → Edit
 
--- an edit of those whom it touches
+-- an edit of those whom it touches, or the tree of a provider is gone
 pub data Change : Type 0 where
   edit : Scope → Edit → Change
+  remove : List ℕ → Change
 
 -- ---- What an edit makes of a provider
 
@@ -158,6 +159,7 @@ unless (Some why) value = Err why
 -- the providers after a change
 unfoldable pub changed : List Provider → Change → Result (List Provider) ChangeKind
 changed all (edit scope e) = unless (edit_fault all scope e) (edited_in all scope e)
+changed all (remove text) = and_then (λ r. Ok (without_tree all r)) (host_root all text)
 
 -- a fault, told with its line
 abbrev pub told_at : {X : Type 0} → ℕ → Result X ChangeKind → Result X (ℕ × ChangeKind)

@@ -4,7 +4,7 @@ use Rattle.std.specs.List.{filter, slice_split}
 use Rattle.std.specs.Option.{option_and_then, option_map, option_or}
 use Rattle.std.specs.Str.{bytes_eq}
 use Rattle.ac_base.specs.Texts.{count_value, id_value, name_value, ratio_value}
-use Rattle.ac_change.specs.Changes.{Change, Edit, Scope, Setting, edit, everyone, gains, host, joins, leaves, loses, max_unit, members, min_unit, ratio, reserved, root, sets, step_size, total}
+use Rattle.ac_change.specs.Changes.{Change, Edit, Scope, Setting, edit, everyone, gains, host, joins, leaves, loses, max_unit, members, min_unit, ratio, remove, reserved, root, sets, step_size, total}
 use Rattle.ac_change.specs.declared.fault.ChangeKind.{ChangeKind}
 use Rattle.ac_change.specs.declared.fault.ChangeKind.TheVariants as kind
 
@@ -92,6 +92,7 @@ unfoldable pub one_said : Text → Text → Option Change
 one_said command word =
     if bytes_eq command (codes "disable") then Some (edit (root word) (gains disabled))
     else if bytes_eq command (codes "enable") then Some (edit (root word) (loses disabled))
+    else if bytes_eq command (codes "remove") then Some (remove word)
     else None
 
 unfoldable pub two_said : Text → Text → Text → Option Change

@@ -51,6 +51,8 @@ pub enum Edit {
 pub enum Change {
     /// An edit of those whom it touches.
     Edit(Scope, Edit),
+    /// The tree of the provider that a text names is gone, by its UUID or by a name that no other has.
+    Remove(Vec<u8>),
 }
 
 /// A change, and the number of its line.

@@ -164,6 +164,9 @@ fn read_one(alloc: Global, command: &[u8], word: &[u8]) -> Result<Option<Change>
         let edit = Edit::Loses(disabled(alloc)?);
         return Ok(Some(Change::Edit(Scope::Root(word.to_vec(alloc)?), edit)));
     }
+    if command == b"remove".as_slice() {
+        return Ok(Some(Change::Remove(word.to_vec(alloc)?)));
+    }
     Ok(None)
 }
 

@@ -1,9 +1,10 @@
 //! Drafts: of a cloud, and after a change.
-ghost use Rattle.std.specs.Prelude.{◌≡◌, ◌<◌, None, length, map, IfErr, IfOk, OnOk, Ok};
+ghost use Rattle.std.specs.Prelude.{◌≡◌, ◌<◌, ◌==◌, not, None, length, map, IfErr, IfOk, OnOk, Ok};
+ghost use Rattle.std.specs.List.{filter};
 ghost use Rattle.std.specs.Result.{result_err};
 ghost use Rattle.ac_cloud.specs.Cloud.CloudWorld.{providers_of};
 ghost use Rattle.ac_cloud.specs.World.{id_at, provider_at, root_of};
-ghost use Rattle.ac_change.specs.Changes.{changed, edit_fault, edited_in};
+ghost use Rattle.ac_change.specs.Changes.{changed, edit_fault, edited_in, remove};
 ghost use Rattle.ac_change.specs.Drafts.{all_held, roots_held, roots_in};
 ghost use Rattle.ac_change.specs.Faults.{TellsKind};
 ghost use Rattle.ac_change.specs.Held.{provider_held};
@@ -13,7 +14,7 @@ use crate::changes::{Change, Edit, Scope};
 use crate::draft::Draft;
 use crate::draft::edits::{edit_all, spoils_one};
 use crate::draft::held::Held;
-use crate::draft::hosts::find_touched;
+use crate::draft::hosts::{find_root, find_touched};
 use crate::draft::inventories::copy_entries;
 use crate::draft::members::copy_names;
 use crate::fault::{ChangeKind, Failed};
@@ -71,6 +72,19 @@ fn hold_all(alloc: Global, cloud: &Cloud) -> Result<Vec<Held>, NoMemory>
     Ok(list)
 }
 
+// The providers of the other trees.
+fn others(alloc: Global, list: Vec<Held>, root: Id) -> Result<Vec<Held>, NoMemory>
+    ensures { IfOk result (λ new. new.items ≡ filter (λ h. not (h.root == root)) list.items) }
+{
+    let mut new = Vec::new(alloc);
+    for held in list {
+        if held.root != root {
+            new.push(held)?;
+        }
+    }
+    Ok(new)
+}
+
 impl Draft {
     // Of a cloud.
     #[tactic(auto, using(crate::proofs::Clouds::held_here))]
@@ -100,6 +114,24 @@ impl Draft {
         Ok(Draft { list })
     }
 
+    // Without the tree of the provider that a text names.
+    #[tactic(auto, using(crate::proofs::Removed::after_removal))]
+    fn without(self, alloc: Global, text: &[u8]) -> Result<Draft, Failed>
+        ensures new { IfOk result (λ new. changed (all_held self.list.items) (remove text.now)
+            ≡ Ok (all_held new.list.items)) }
+        ensures fault { IfErr result (TellsKind (result_err
+            (changed (all_held self.list.items) (remove text.now)))) }
+    {
+        match find_root(&self.list, text) {
+            Ok(root) => {
+                let Draft { list } = self;
+                let list = others(alloc, list, root)?;
+                Ok(Draft { list })
+            }
+            Err(why) => Err(Failed::Kind(why)),
+        }
+    }
+
     // After a change.
     #[tactic(auto, unfolding(crate::specs::Changes::changed), using(crate::proofs::AfterEdit::unless_told))]
     pub(crate) fn changed(self, alloc: Global, change: &Change) -> Result<Draft, Failed>
@@ -110,6 +142,7 @@ impl Draft {
     {
         match change {
             Change::Edit(scope, edit) => self.edited(alloc, scope, edit),
+            Change::Remove(text) => self.without(alloc, text),
         }
     }
 }

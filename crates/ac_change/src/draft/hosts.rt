@@ -81,7 +81,7 @@ fn find_host(list: &[Held], text: &[u8]) -> Result<usize, HostFault>
 
 // The UUID of the provider that a text names, and that of the root of its tree.
 #[tactic(auto, using(crate::proofs::Touching::host_found))]
-pub(crate) fn find_tree(list: &[Held], text: &[u8]) -> Result<(Id, Id), ChangeKind>
+fn find_tree(list: &[Held], text: &[u8]) -> Result<(Id, Id), ChangeKind>
     requires { AreRooted list.now }
     ensures id { result_map_both (λ p. p.0) (λ e. e) result ≡ host_id (all_held list.now) text.now }
     ensures root { result_map_both (λ p. p.1) (λ e. e) result
@@ -91,6 +91,17 @@ pub(crate) fn find_tree(list: &[Held], text: &[u8]) -> Result<(Id, Id), ChangeKi
         Ok(ix) => Ok((list[ix].id, list[ix].root)),
         Err(HostFault::Unknown) => Err(ChangeKind::UnknownHost),
         Err(HostFault::Ambiguous) => Err(ChangeKind::AmbiguousHost),
+    }
+}
+
+// The UUID of the root of the tree of the provider that a text names.
+pub(crate) fn find_root(list: &[Held], text: &[u8]) -> Result<Id, ChangeKind>
+    requires { AreRooted list.now }
+    ensures { result ≡ host_root (all_held list.now) text.now }
+{
+    match find_tree(list, text) {
+        Ok((_, root)) => Ok(root),
+        Err(why) => Err(why),
     }
 }
 
@@ -140,8 +151,8 @@ pub(crate) fn find_touched(alloc: Global, list: &[Held], scope: &Scope) -> Resul
             Ok((id, _)) => Ok(Touched::One(id)),
             Err(why) => Err(Failed::Kind(why)),
         },
-        Scope::Root(text) => match find_tree(list, text) {
-            Ok((_, root)) => Ok(Touched::One(root)),
+        Scope::Root(text) => match find_root(list, text) {
+            Ok(root) => Ok(Touched::One(root)),
             Err(why) => Err(Failed::Kind(why)),
         },
         Scope::Everyone => Ok(Touched::Everyone),
