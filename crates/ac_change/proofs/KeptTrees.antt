@@ -18,7 +18,7 @@ module _ (test : Provider → Bool) (e : Edit) where
   one_parent : (p : Provider) → (one p).parent ≡ p.parent
   one_parent p = elim (cases_Bool (test p)) [ inl e1 ↦ rw e1 (same_parent e p) | inr e2 ↦ rw e2 refl ]
 
-  ids_stay : (all : List Provider) → ids_in (map one all) ≡ ids_in all
+  pub ids_stay : (all : List Provider) → ids_in (map one all) ≡ ids_in all
   ids_stay all = map-map (λ (p : Provider). p.id) one all ∙ map_same (λ p. (one p).id) (λ p. p.id) one_id all
 
   parents_stay : (all : List Provider) → parents_in (map one all) ≡ parents_in all

@@ -5,6 +5,7 @@ pub mod Common
 pub mod Fewer
 pub mod Followed
 pub mod Forests
+pub mod GainedLost
 pub mod KeptTrees
 pub mod LinesRead
 pub mod Lists

@@ -29,7 +29,7 @@ module _ {X Y : Type 0} (f g : X → Y) where
       let tail : map f xs ≡ map g xs = cc in
       (head, each_same xs tail)
 
-  same_each : (xs : List X) → AllByRecursion (λ x. f x ≡ g x) xs → map f xs ≡ map g xs
+  pub same_each : (xs : List X) → AllByRecursion (λ x. f x ≡ g x) xs → map f xs ≡ map g xs
   same_each [] all = refl
   same_each (x ∷ xs) all = ap₂ (λ y ys. y ∷ ys) all.0 (same_each xs all.1)
 
