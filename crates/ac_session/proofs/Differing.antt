@@ -1,6 +1,6 @@
 -- Behind the turns of a session its providers differ in how much is used alone, and what was marked is used again.
 use Rattle.std.proofs.Common.{◌≡◌, ◌∙◌, ℕ, zero, suc, ◌+◌, ◌<◌, ◌≤◌, Bool, true, false, List, [], ◌∷◌, ◌++◌, Option, None, Some, Less, map, length, refl, sym, ap, ap₂, subst, append-nil, append_assoc, arith, inl, inr}
-use Rattle.std.proofs.lemmas.Bool.{cases_Bool, cases_eq}
+use Rattle.std.proofs.lemmas.Bool.{cases_eq}
 use Rattle.std.proofs.lemmas.Bool.Decides.{nat_tests}
 use Rattle.std.proofs.lemmas.Map.Keys.{sorted_head, sorted_tail}
 use Rattle.std.specs.Cmp.Lexicographic.{bytes_decides}
@@ -24,7 +24,7 @@ use Rattle.ac_rules.specs.Claims.{claimed, moved, released}
 use Rattle.ac_rules.specs.Placed.{Placed, assigned}
 use Rattle.ac_session.specs.Held.{Claim, Held, Mark, marked}
 use Rattle.ac_session.proofs.UsageRows.Checks.{apart_of}
-use Rattle.ac_session.specs.Laws.{MarksStay, LeavesMarks, held_behind}
+use Rattle.ac_session.specs.Laws.{MarksStay, held_behind}
 use Rattle.ac_session.specs.Lines.{Given, line, too_long, end}
 use Rattle.ac_session.specs.Marks.{Kept, kept_at, kept_entry, kept_of, restored, used_again}
 use Rattle.ac_session.specs.Questions.{Asked, asked_of, back, claim, fill, help, job, left_at, mark, move, nothing, place, release, release_name, unknown, usages, wrong_number}
