@@ -1,13 +1,13 @@
 -- Behind the turns of a session its providers differ in how much is used alone, and what was marked is used again.
 use Rattle.std.proofs.Common.{◌≡◌, ◌∙◌, ℕ, zero, suc, ◌+◌, ◌<◌, ◌≤◌, Bool, true, false, List, [], ◌∷◌, ◌++◌, Option, None, Some, Less, map, length, refl, sym, ap, ap₂, subst, append-nil, append_assoc, arith, inl, inr}
-use Rattle.std.proofs.lemmas.Bool.{cases_Bool, cases_eq}
+use Rattle.std.proofs.lemmas.Bool.{cases_eq}
 use Rattle.std.proofs.lemmas.Bool.Decides.{nat_tests}
 use Rattle.std.proofs.lemmas.Map.Keys.{sorted_head, sorted_tail}
 use Rattle.std.specs.Cmp.Lexicographic.{bytes_decides}
 use Rattle.std.specs.List.{AllByRecursion, flat_map, range_with_len}
 use Rattle.std.specs.List.Sorted.{IsStrictlySortedBy}
 use Rattle.std.specs.Map.{keys_of, lookup}
-use Rattle.std.specs.Prelude.{◌==◌, nat_le, if◌then◌else◌}
+use Rattle.std.specs.Prelude.{◌==◌, nat_le}
 use Rattle.std.specs.Str.{bytes_eq}
 use Rattle.ac_base.specs.Texts.{text_cmp}
 use Rattle.ac_cloud.proofs.Amounts.{amounts_again, amounts_kept, amounts_same_found}
@@ -24,7 +24,7 @@ use Rattle.ac_rules.specs.Claims.{claimed, moved, released}
 use Rattle.ac_rules.specs.Placed.{Placed, assigned}
 use Rattle.ac_session.specs.Held.{Claim, Held, Mark, marked}
 use Rattle.ac_session.proofs.UsageRows.Checks.{apart_of}
-use Rattle.ac_session.specs.Laws.{MarksStay, LeavesMarks, held_behind}
+use Rattle.ac_session.specs.Laws.{MarksStay, held_behind}
 use Rattle.ac_session.specs.Lines.{Given, line, too_long, end}
 use Rattle.ac_session.specs.Marks.{Kept, kept_at, kept_entry, kept_of, restored, used_again}
 use Rattle.ac_session.specs.Questions.{Asked, asked_of, back, claim, fill, help, job, left_at, mark, move, nothing, place, release, release_name, unknown, usages, wrong_number}

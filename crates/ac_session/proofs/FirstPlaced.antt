@@ -1,5 +1,5 @@
 -- The first candidate: it is one, and what is refused where it is asked for.
-use Rattle.std.proofs.Common.{◌≡◌, ◌∙◌, ℕ, Bool, true, List, [], ◌∷◌, length, Option, Some, None, refl, ap, subst, sym}
+use Rattle.std.proofs.Common.{◌≡◌, ◌∙◌, ℕ, Bool, true, List, [], ◌∷◌, length, Option, Some, None, refl, subst, sym}
 use Rattle.std.specs.Prelude.{Result, Ok, Err, IfOk, false}
 use Rattle.std.specs.List.{AllByRecursion as Each, filter}
 use Rattle.ac_cloud.specs.World.{Provider}
