@@ -31,7 +31,7 @@ use Rattle.ac_tables.specs.declared.read.FiveTables.{FiveTables}
 use Rattle.ac_cli.specs.Files.{AreOpened, ExplainsUnread, HoldsFile}
 use Rattle.ac_cli.specs.declared.files.FileUnread.{FileUnread}
 use Rattle.ac_cli.specs.declared.files.FileUnread.TheVariants as unread
-use Rattle.ac_words.specs.Words.{Line, Says, calls_answer, faults, file_called, named, task_in}
+use Rattle.ac_words.specs.Words.{Line, Says, calls_answer, faults, file_called, is_tabled, named, task_in}
 use Rattle.ac_words.specs.declared.name.Name.{Name}
 use Rattle.ac_tables.specs.FiveTables.{table_in}
 
@@ -229,6 +229,25 @@ pub record LacksFile {R : Type 0} (opens : List ℕ → R → Type 0) (refuses :
   pub told : IsToldUnread (calls_answer line.call) (detail_in line) path why (IsLine s) given
   pub output : s.out_new ≡ s.out_old
 
+-- the tables of what is about none: their headers alone
+unfoldable pub header_bytes : Bytes
+header_bytes = record {
+  providers = codes "uuid,root_provider_uuid,parent_provider_uuid\n";
+  inventories = codes "resource_provider,resource_class,total,reserved,min_unit,max_unit,step_size,allocation_ratio\n";
+  usages = None;
+  traits = None;
+  aggregates = None;
+}
+
+-- What a line calls for is about no tables, and was done over their headers.
+pub record RanHeaders {R Q : Type 0} (remaining : R → Option (List ℕ)) (failures : R → ℕ) (asked : Q → Option (List ℕ)) (fails : Q → ℕ)
+    (questions : Q) (line : Line) (s : Streams) (given : ℕ) : Type 0 where
+  pub untabled : is_tabled line.call ≡ false
+  pub from : FiveTables R
+  pub to : FiveTables R
+  pub tells : TellBytes remaining from header_bytes
+  pub ran : RanCall remaining failures asked fails (task_in line [] (detail_in line)) line from to questions s given
+
 -- What a line calls for was done over what was opened at its paths.
 pub record RanOpened {R Q : Type 0} (opens : List ℕ → R → Type 0) (remaining : R → Option (List ℕ)) (failures : R → ℕ)
     (asked : Q → Option (List ℕ)) (fails : Q → ℕ) (questions : Q) (line : Line) (s : Streams) (status : ℕ) : Type 0 where
@@ -244,6 +263,10 @@ abbrev pub EndsForLine : {R Q : Type 0} → (List ℕ → R → Type 0) → (Lis
 EndsForLine opens refuses remaining failures asked fails questions line s given =
     IsUnopened refuses line s given
     ⊎ (LacksFile opens refuses remaining failures line s given ⊎ RanOpened opens remaining failures asked fails questions line s given)
+
+-- how a line ends: over the headers of the tables, if what it calls for is about none; else over what is opened
+abbrev pub EndsLine : Type 0 → Type 0 → Line → Type 0
+EndsLine Headers Opened line = Headers ⊎ ((is_tabled line.call ≡ true) × Opened)
 
 -- ---- all words
 

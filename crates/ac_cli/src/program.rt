@@ -1,5 +1,5 @@
 //! The program around a run: its words, its files and its streams.
-ghost use Rattle.std.specs.Prelude.{◌≡◌, ◌≤◌, ◌⊎◌, IfErr, IfOk, Some, map, option_map, string_bytes};
+ghost use Rattle.std.specs.Prelude.{◌≡◌, ◌≤◌, ◌⊎◌, IfErr, IfOk, Some, false, map, option_map, string_bytes};
 ghost use Rattle.std.specs.Io.KnownBytes.{Appends};
 ghost use Rattle.ac_base.specs.Devices.{Rises, TakesPart};
 ghost use Rattle.ac_base.specs.Writing.{TakesLine};
@@ -7,10 +7,10 @@ ghost use Rattle.ac_run.specs.Feeds.{Bytes, TellBytes};
 ghost use Rattle.ac_run.specs.Lines.{memory_line};
 ghost use Rattle.ac_run.specs.Notes.{noted};
 ghost use Rattle.ac_run.specs.Tasks.{command_shown, detail_shown, paths_shown, task_of};
-ghost use Rattle.ac_cli.specs.Program.{EndsForLine, EndsForWords, EndsProgram, HeldSession, IsShown, IsToldUnopened, IsToldUnread, RanCall, RanJob, RanSample, RanTask, detail_in, file_status, large_said, note_behind, seen, unread_said, unread_told};
+ghost use Rattle.ac_cli.specs.Program.{EndsForLine, EndsForWords, EndsLine, EndsProgram, HeldSession, IsShown, IsToldUnopened, IsToldUnread, RanCall, RanHeaders, RanJob, RanSample, RanTask, detail_in, file_status, large_said, note_behind, seen, unread_said, unread_told};
 ghost use Rattle.ac_run.specs.Refusals.{line_of, status_of};
 ghost use Rattle.ac_cli.specs.Files.{ExplainsUnread, HoldsFile};
-ghost use Rattle.ac_words.specs.Words.{file_called, task_in};
+ghost use Rattle.ac_words.specs.Words.{file_called, is_tabled, task_in};
 
 use crate::files::{FileUnread, Unopened, opened_inputs, read_file};
 use crate::host::{Host, Unworded};
@@ -284,8 +284,8 @@ fn answer_opened<F: Feed, Q: Feed + Drop, W: Sink + Drop, E: Sink>(
     }
 }
 
-// Does what accepted words ask for.
-fn answer_line<H: Host + AllocGlobal, Q: Feed + Drop, W: Sink + Drop, E: Sink>(
+// Does what accepted words ask for, over the files that they name.
+fn answer_tabled<H: Host + AllocGlobal, Q: Feed + Drop, W: Sink + Drop, E: Sink>(
     host: &H,
     words: &Words,
     questions: Q,
@@ -314,6 +314,47 @@ fn answer_line<H: Host + AllocGlobal, Q: Feed + Drop, W: Sink + Drop, E: Sink>(
     answer_opened(alloc, words, &file, &mut inputs, questions, out, err)
 }
 
+// Does what accepted words ask for that is about no tables: over their headers.
+fn answer_headers<Q: Feed + Drop, W: Sink + Drop, E: Sink>(
+    alloc: Global,
+    words: &Words,
+    questions: Q,
+    out: W,
+    err: &mut E,
+) -> (u8, W)
+    requires { is_tabled words.now.call ≡ false }
+    ensures { RanHeaders ⟦<FromRead<&'static [u8]> as Feed>⟧.remaining
+        ⟦<FromRead<&'static [u8]> as Feed>⟧.failures Q.remaining Q.failures questions words.now
+        (seen W.taken W.failures E.taken E.failures out result.1 err.old err.new) result.0 }
+{
+    let mut inputs = sample::headers();
+    answer_opened(alloc, words, &[], &mut inputs, questions, out, err)
+}
+
+// Does what accepted words ask for.
+fn answer_line<H: Host + AllocGlobal, Q: Feed + Drop, W: Sink + Drop, E: Sink>(
+    host: &H,
+    words: &Words,
+    questions: Q,
+    out: W,
+    err: &mut E,
+) -> (u8, W)
+    ensures { EndsLine (RanHeaders
+        ⟦<FromRead<&'static [u8]> as Feed>⟧.remaining ⟦<FromRead<&'static [u8]> as Feed>⟧.failures
+        Q.remaining Q.failures questions words.now (seen W.taken W.failures E.taken E.failures out
+        result.1 err.old err.new) result.0)
+        (EndsForLine (H.opens host.now) (H.refuses host.now) H.File.remaining H.File.failures
+        Q.remaining Q.failures questions words.now
+        (seen W.taken W.failures E.taken E.failures out result.1 err.old err.new) result.0)
+        words.now }
+{
+    if words.is_tabled() {
+        answer_tabled(host, words, questions, out, err)
+    } else {
+        answer_headers(host.alloc(), words, questions, out, err)
+    }
+}
+
 // Does what words ask for.
 fn answer_words<H: Host + AllocGlobal, Q: Feed + Drop, W: Sink + Drop, E: Sink>(
     host: &H,
@@ -322,10 +363,14 @@ fn answer_words<H: Host + AllocGlobal, Q: Feed + Drop, W: Sink + Drop, E: Sink>(
     out: W,
     err: &mut E,
 ) -> (u8, W)
-    ensures { EndsForWords (λ line.
-        EndsForLine (H.opens host.now) (H.refuses host.now) H.File.remaining H.File.failures
+    ensures { EndsForWords (λ line. EndsLine (RanHeaders
+        ⟦<FromRead<&'static [u8]> as Feed>⟧.remaining ⟦<FromRead<&'static [u8]> as Feed>⟧.failures
+        Q.remaining Q.failures questions line (seen W.taken W.failures E.taken E.failures out
+        result.1 err.old err.new) result.0)
+        (EndsForLine (H.opens host.now) (H.refuses host.now) H.File.remaining H.File.failures
         Q.remaining Q.failures questions line
         (seen W.taken W.failures E.taken E.failures out result.1 err.old err.new) result.0)
+        line)
         (map string_bytes given.now) (seen W.taken W.failures E.taken E.failures out result.1
         err.old err.new) result.0 }
 {
@@ -371,10 +416,14 @@ pub fn answer<H: Host + AllocGlobal, Q: Feed + Drop, W: Sink + Drop, E: Sink>(
     ensures { EndsProgram (H.gives host.now) (H.garbles host.now)
         (RanSample ⟦<FromRead<&'static [u8]> as Feed>⟧.remaining
         ⟦<FromRead<&'static [u8]> as Feed>⟧.failures
-        (seen W.taken W.failures E.taken E.failures out result.1 err.old err.new) result.0) (λ line.
-        EndsForLine (H.opens host.now) (H.refuses host.now) H.File.remaining H.File.failures
+        (seen W.taken W.failures E.taken E.failures out result.1 err.old err.new) result.0) (λ line. EndsLine (RanHeaders
+        ⟦<FromRead<&'static [u8]> as Feed>⟧.remaining ⟦<FromRead<&'static [u8]> as Feed>⟧.failures
+        Q.remaining Q.failures questions line (seen W.taken W.failures E.taken E.failures out
+        result.1 err.old err.new) result.0)
+        (EndsForLine (H.opens host.now) (H.refuses host.now) H.File.remaining H.File.failures
         Q.remaining Q.failures questions line
         (seen W.taken W.failures E.taken E.failures out result.1 err.old err.new) result.0)
+        line)
         (seen W.taken W.failures E.taken E.failures out result.1 err.old err.new) result.0 }
 {
     match host.words() {

@@ -1,8 +1,8 @@
-//! What the program does without words: a job on built-in tables.
+//! Built-in tables: those of the job that the program does without words, and the headers over which a command is run that is about no tables.
 ghost use Rattle.std.specs.Prelude.{◌≡◌};
 ghost use Rattle.ac_run.specs.Feeds.{TellBytes};
 ghost use Rattle.ac_run.specs.Tasks.{task_of};
-ghost use Rattle.ac_cli.specs.Program.{sample_bytes, sample_task};
+ghost use Rattle.ac_cli.specs.Program.{header_bytes, sample_bytes, sample_task};
 
 use ac_base::{Feed, FromRead};
 use ac_query::Version;
@@ -17,6 +17,11 @@ const INVENTORIES: &str = "\
 resource_provider,resource_class,total,reserved,min_unit,max_unit,step_size,allocation_ratio
 00000000-0000-0000-0000-000000000001,VCPU,8,0,1,8,1,1.0
 ";
+
+const PROVIDERS_HEADER: &str = "uuid,root_provider_uuid,parent_provider_uuid\n";
+
+const INVENTORIES_HEADER: &str = "\
+resource_provider,resource_class,total,reserved,min_unit,max_unit,step_size,allocation_ratio\n";
 
 /// The job.
 pub fn job() -> Job<'static>
@@ -42,6 +47,20 @@ pub fn inputs() -> Inputs<FromRead<&'static [u8]>>
     Inputs {
         providers: FromRead::new(PROVIDERS.as_bytes()),
         inventories: FromRead::new(INVENTORIES.as_bytes()),
+        usages: None,
+        traits: None,
+        aggregates: None,
+    }
+}
+
+/// The headers of tables, and no rows.
+#[tactic(auto, unfolding(crate::specs::Program::header_bytes))]
+pub fn headers() -> Inputs<FromRead<&'static [u8]>>
+    ensures { TellBytes ⟦<FromRead<&'static [u8]> as Feed>⟧.remaining result header_bytes }
+{
+    Inputs {
+        providers: FromRead::new(PROVIDERS_HEADER.as_bytes()),
+        inventories: FromRead::new(INVENTORIES_HEADER.as_bytes()),
         usages: None,
         traits: None,
         aggregates: None,

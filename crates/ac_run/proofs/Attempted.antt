@@ -21,6 +21,7 @@ use Rattle.ac_run.specs.Lines.{answer_line, host_line, memory_line}
 use Rattle.ac_run.specs.Refusals.{IsRefusalWith, line_of, line_of_asked, line_of_tables, line_told, status_of, status_of_asked, status_of_tables, status_told}
 use Rattle.ac_run.specs.Run.{Explains, ExplainsTables, IsStated, IsWritten}
 use Rattle.ac_run.specs.Tasks.{Command, Paths, Task, check, candidates, tokens, list, fill, verify, explain, hosts, why, capacity, compare, audit, host_in, token_in}
+use Rattle.ac_run.specs.Tasks as command
 use Rattle.ac_run.specs.declared.refusal.AnswerRefusal.{AnswerRefusal}
 use Rattle.ac_run.specs.Wanted.{AsksOne, ExplainsWanted}
 use Rattle.ac_run.specs.declared.refusal.AskRefusal.{AskRefusal}
@@ -147,12 +148,13 @@ module _ (text : List ℕ) (o said : Outcome) (old new : Option (List ℕ)) wher
 
 -- ---- what a task asks of a world
 
--- but for `check`, `capacity` and `audit` a command asks for a query
+-- but for `check`, `capacity`, `audit` and the parameters a command asks for a query
 pub asks_query : (command : Command) (detail : Bool) (version : Version) (query : List ℕ) (world : World) → AsksOne command
     → answer_by command detail version query world ≡ past_query (said_by command detail world) (token_in command) version query
 asks_query check detail version query world other = absurd other
 asks_query (capacity flavors metrics) detail version query world other = absurd other
 asks_query (audit _) detail version query world other = absurd other
+asks_query command.parameters detail version query world other = absurd other
 asks_query (candidates after at traits) detail version query world other = refl
 asks_query (tokens after at) detail version query world other = refl
 asks_query (list after at traits) detail version query world other = refl
@@ -162,6 +164,7 @@ asks_query explain detail version query world other = refl
 asks_query (hosts sum within) detail version query world other = refl
 asks_query (why host) detail version query world other = refl
 asks_query (compare answer) detail version query world other = refl
+asks_query command.reading detail version query world other = refl
 
 -- a host that names no provider is told behind the query and the token
 pub host_refused : (command : Command) (detail : Bool) (world : World) (asked : Asked) (host : List ℕ) (f : HostFault) → host_in command ≡ Some host
@@ -179,6 +182,8 @@ host_refused (hosts sum within) detail world asked host f is fine unknown = absu
 host_refused (capacity flavors metrics) detail world asked host f is fine unknown = absurd (cc)
 host_refused (compare answer) detail world asked host f is fine unknown = absurd (cc)
 host_refused (audit _) detail world asked host f is fine unknown = absurd (cc)
+host_refused command.reading detail world asked host f is fine unknown = absurd (cc)
+host_refused command.parameters detail world asked host f is fine unknown = absurd (cc)
 
 -- and so is an answer that can't be compared
 pub answer_refused_so : (answer : List ℕ) (detail : Bool) (world : World) (asked : Asked) (f : AnswerRefusal) → answer_refused answer ≡ Some f
@@ -190,6 +195,7 @@ asks_text_of : (command : Command) (all : List Provider) (task : Task) → AsksO
 asks_text_of check all task one = absurd one
 asks_text_of (capacity flavors metrics) all task one = absurd one
 asks_text_of (audit _) all task one = absurd one
+asks_text_of command.parameters all task one = absurd one
 asks_text_of (candidates after at traits) all task one = refl
 asks_text_of (tokens after at) all task one = refl
 asks_text_of (list after at traits) all task one = refl
@@ -199,6 +205,7 @@ asks_text_of explain all task one = refl
 asks_text_of (hosts sum within) all task one = refl
 asks_text_of (why host) all task one = refl
 asks_text_of (compare answer) all task one = refl
+asks_text_of command.reading all task one = refl
 
 module _ (task : Task) (world : World) where
   refused_in : (line text : List ℕ) (status : ℕ) → 3 ≤ status → answer_in task world ≡ refused line status → asked_text world.providers task ≡ text

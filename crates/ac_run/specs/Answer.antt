@@ -25,6 +25,8 @@ use Rattle.ac_report.specs.Texts.{body, lines, shown_providers}
 use Rattle.ac_fill.specs.Bounds.{most_placed, shorts}
 use Rattle.ac_fill.specs.Filled.{filled}
 use Rattle.ac_run.specs.Outputs.{counted, counts, detailed_text, fill_status, sum_text, verdict_status, verdict_text}
+use Rattle.ac_run.specs.Outputs.Parameters.{parameters_text}
+use Rattle.ac_run.specs.Outputs.QueryRows.{reading_text}
 use Rattle.ac_find.specs.Audit.{findings}
 use Rattle.ac_report.specs.Findings.AuditRows.{audit_status, audit_text}
 use Rattle.ac_report.specs.Findings.Explanation.{explanation_status, explanation_text}
@@ -173,6 +175,14 @@ compare_said answer all asked ids = told (answer_refused answer) (λ why. refuse
 abbrev pub amiss : World → Option ℕ → Outcome
 amiss world zone = written (audit_text (findings world zone)) (audit_status (findings world zone))
 
+-- how a query is read
+abbrev pub reading : Says
+reading asked ids = written (reading_text asked) 0
+
+-- the parameters of a query
+abbrev pub parameters : Outcome
+parameters = written parameters_text 0
+
 -- the aggregate that a text names by its UUID; another text names none
 abbrev pub zone_named : Option (List ℕ) → Option ℕ
 zone_named zone = option_and_then id_value zone
@@ -200,12 +210,15 @@ said_by (command.why host) detail world = why_rows world.providers host
 said_by (command.capacity flavors metrics) detail world = λ asked ids. capacities metrics world.providers []
 said_by (command.compare answer) detail world = compare_said answer world.providers
 said_by (command.audit zone) detail world = λ asked ids. amiss world (zone_named zone)
+said_by command.reading detail world = reading
+said_by command.parameters detail world = λ asked ids. parameters
 
--- the answer of a command; `check` and `audit` ask for no query, and `capacity` for those of its flavors
+-- the answer of a command; `check`, `audit` and the parameters ask for no query, and `capacity` for those of its flavors
 abbrev pub answer_by : Command → Bool → Version → List ℕ → World → Outcome
 answer_by command.check detail version query world = written (counts world.sizes) 0
 answer_by (command.capacity flavors metrics) detail version query world = capacity_said version flavors metrics world.providers
 answer_by (command.audit zone) detail version query world = amiss world (zone_named zone)
+answer_by command.parameters detail version query world = parameters
 answer_by asks detail version query world = past_query (said_by asks detail world) (token_in asks) version query
 
 -- the answer to a task in a world

@@ -63,7 +63,7 @@ host_said host (Err f) = host_remedy host f
 
 -- of an answer of the service that is no answer of it
 unfoldable pub answer_remedy : AnswerRefusal → List ℕ
-answer_remedy answer.BadAnswer = codes "It is to be the body that the service answers GET /allocation_candidates with: JSON, with allocation_requests of 1.34 or later.\n"
+answer_remedy answer.BadAnswer = codes "  It is to be the body that the service answers GET /allocation_candidates with: JSON, with allocation_requests of 1.34 or later.\n"
 answer_remedy _ = []
 
 abbrev pub answer_text : Command → List ℕ

@@ -38,6 +38,8 @@ SearchMayStop (command.why host) version tries all asked = MayStop tries all ask
 SearchMayStop (command.capacity flavors metrics) version tries all asked = OneMayStop tries all (plans_of version flavors)
 SearchMayStop (command.compare answer) version tries all asked = MayStop tries all asked None
 SearchMayStop (command.audit _) version tries all asked = ⊥
+SearchMayStop command.reading version tries all asked = ⊥
+SearchMayStop command.parameters version tries all asked = ⊥
 
 -- a search of a task may stop, over the bytes of five tables
 abbrev pub TaskMayStop : Task → Bytes → Type 0
@@ -57,3 +59,5 @@ AnswerMayStop (wanted.Why query host) tries all = MayStop tries all (asked_of qu
 AnswerMayStop (wanted.Capacity plans metrics) tries all = OneMayStop tries all (map plan_shown plans.items)
 AnswerMayStop (wanted.Comparison query answer) tries all = MayStop tries all (asked_of query) None
 AnswerMayStop (wanted.Amiss _) tries all = ⊥
+AnswerMayStop (wanted.Reading query) tries all = ⊥
+AnswerMayStop wanted.Parameters tries all = ⊥

@@ -9,7 +9,8 @@ use Rattle.ac_run.specs.declared.job.Job.{Job}
 use Rattle.ac_tables.specs.declared.read.FiveTables.{FiveTables}
 
 -- what is to be done: with the token to begin after, or to judge; with the host at whose root candidates are to stand; with traits, or not; with the number of placements in place of their tokens, or not;
--- with the host that is asked about; with the text of a table of flavors, as rows or as metrics; with an answer of the service; with an aggregate as the zone of hosts
+-- with the host that is asked about; with the text of a table of flavors, as rows or as metrics; with an answer of the service; with an aggregate as the zone of hosts;
+-- how a query is read, and the parameters of a query
 pub data Command : Type 0 where
   check : Command
   candidates : Option (List ℕ) → Option (List ℕ) → Bool → Command
@@ -23,6 +24,8 @@ pub data Command : Type 0 where
   capacity : List ℕ → Bool → Command
   compare : List ℕ → Command
   audit : Option (List ℕ) → Command
+  reading : Command
+  parameters : Command
 
 -- the paths of the tables' files, as they were given
 abbrev pub Paths : Type 0
@@ -67,6 +70,8 @@ command_shown (variant.Why host) = why host.now
 command_shown (variant.Capacity flavors metrics) = capacity flavors.now metrics
 command_shown (variant.Compare answer) = compare answer.now
 command_shown (variant.Audit zone) = audit (option_map (λ t. t.now) zone)
+command_shown variant.Query = reading
+command_shown variant.Parameters = parameters
 
 abbrev pub paths_shown : FiveTables (Bor (List ℕ)) → Paths
 paths_shown p = record {

@@ -101,6 +101,8 @@ search_none (command.why host) version all asked may = may
 search_none (command.capacity flavors metrics) version all asked may = may.2
 search_none (command.compare answer) version all asked may = may
 search_none (command.audit _) version all asked may = may
+search_none command.reading version all asked may = may
+search_none command.parameters version all asked may = may
 
 asked_none : (version : Version) (held : Held) (asked : Asked) → AskedMayStop None version held asked → ⊥
 asked_none version held (job task) may = search_none task.command task.version held.world.providers _ may.0

@@ -2,7 +2,7 @@
 ghost use Rattle.std.specs.Prelude.{◌≡◌, IfErr, IfOk, IsTrue, OnOk, [], map, option_map, string_bytes};
 ghost use Rattle.ac_run.specs.Tasks.{detail_shown, paths_shown, task_of};
 ghost use Rattle.ac_tables.specs.FiveTables.{table_in};
-ghost use Rattle.ac_words.specs.Words.{Line, Says, Tells, call_shown, calls_answer, faults, file_called, is_taken, named, paths_kept, task_in};
+ghost use Rattle.ac_words.specs.Words.{Line, Says, Tells, call_shown, calls_answer, faults, file_called, is_tabled, is_taken, named, paths_kept, task_in};
 ghost use Rattle.clap.specs.Words.{HasKind, Kinds};
 ghost use Rattle.ac_words.specs.declared.words.WordFault.TheVariants.{NoMemory};
 
@@ -95,6 +95,16 @@ impl<'a> Words<'a> {
         match self.call {
             Call::Beside(..) => true,
             _ => false,
+        }
+    }
+
+    /// Whether they are about tables: how a query is read isn't, nor are the parameters.
+    pub fn is_tabled(&self) -> bool
+        ensures { result ≡ is_tabled self.now.call }
+    {
+        match self.call {
+            Call::Job(Command::Query | Command::Parameters, _) => false,
+            _ => true,
         }
     }
 

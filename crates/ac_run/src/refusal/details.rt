@@ -106,7 +106,7 @@ fn answer_detail(alloc: Global, refusal: AnswerRefusal) -> Result<Vec<u8>, Alloc
 {
     match refusal {
         AnswerRefusal::BadAnswer =>
-            b"It is to be the body that the service answers GET /allocation_candidates with: JSON, with allocation_requests of 1.34 or later.\n".to_vec(
+            b"  It is to be the body that the service answers GET /allocation_candidates with: JSON, with allocation_requests of 1.34 or later.\n".to_vec(
                 alloc,
             ),
         _ => Ok(Vec::new(alloc)),

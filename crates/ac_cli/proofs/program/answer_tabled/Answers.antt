@@ -1,5 +1,5 @@
 use Rattle.std.proofs.Common.{inr}
-use Rattle.ac_cli.proofs.program.answer_line.Goals as goal
+use Rattle.ac_cli.proofs.program.answer_tabled.Goals as goal
 
 pub returns : goal.returns
 returns g c =
