@@ -330,6 +330,8 @@ fn with_text<'a>(command: Command<'static>, text: Option<&'a str>) -> Command<'a
         Command::Capacity { flavors, metrics } => Command::Capacity { flavors, metrics },
         Command::Compare { answer } => Command::Compare { answer },
         Command::Audit { zone } => Command::Audit { zone },
+        Command::Query => Command::Query,
+        Command::Parameters => Command::Parameters,
     }
 }
 
