@@ -35,6 +35,7 @@ pub fn job() -> Job<'static>
         query: "resources=VCPU:2",
         version: Version::V136,
         tries: None,
+        changes: None,
         detail: None,
     }
 }

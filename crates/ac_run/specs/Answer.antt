@@ -34,7 +34,9 @@ use Rattle.ac_report.specs.Findings.Explanation.Candidates.{has_candidate}
 use Rattle.ac_report.specs.Findings.HostRows.{hosts_status, hosts_text}
 use Rattle.ac_report.specs.Findings.HostSums.{sums_text}
 use Rattle.ac_report.specs.Findings.WhyRows.{root_place, why_status, why_text}
+use Rattle.ac_change.specs.declared.fault.ChangeKind.{ChangeKind}
 use Rattle.ac_run.specs.Capacity.{capacity_status, room_of, rooms_text}
+use Rattle.ac_run.specs.Changing.{change_fault, change_line, change_remedy, world_in}
 use Rattle.ac_run.specs.Compared.{answer_read, compared_status, compared_text}
 use Rattle.ac_run.specs.Comparing.{answer_refused}
 use Rattle.ac_run.specs.Feeds.{Bytes, too_large}
@@ -248,11 +250,16 @@ abbrev pub table_refused : Option Paths → Tables → TableFault → Outcome
 table_refused detail stated (fault.At t row k) = refused (record_line t row k ++ behind detail (λ paths. fault_text paths stated t row k)) 3
 table_refused detail stated fault.NoMemory = refused memory_line 7
 
--- what is said of the world that the bytes of five tables state, unless they are refused
-abbrev pub past_tables : Option Paths → Bytes → (World → Outcome) → Outcome
-past_tables detail b say =
-    told (too_large b) (size_refused detail) (told (tables_fault (tables_in b)) (table_refused detail (tables_in b)) (say (world_stated (tables_in b))))
+-- the first fault of changes
+abbrev pub change_refused : Option Paths → ℕ × ChangeKind → Outcome
+change_refused detail f = refused (change_line f.0 f.1 ++ behind detail (λ paths. change_remedy f.1)) 3
+
+-- what is said of the world that the bytes of five tables state, as changes leave it, unless the tables or the changes are refused
+abbrev pub past_tables : Option Paths → Option (List ℕ) → Bytes → (World → Outcome) → Outcome
+past_tables detail changes b say =
+    told (too_large b) (size_refused detail) (told (tables_fault (tables_in b)) (table_refused detail (tables_in b))
+    (told (change_fault changes (world_stated (tables_in b))) (change_refused detail) (say (world_in changes b))))
 
 -- the answer to a task over the bytes of five tables
 unfoldable pub answer : Task → Bytes → Outcome
-answer task b = past_tables task.detail b (answer_within task)
+answer task b = past_tables task.detail task.changes b (answer_within task)

@@ -31,12 +31,13 @@ pub data Command : Type 0 where
 abbrev pub Paths : Type 0
 Paths = FiveTables (List ℕ)
 
--- what is asked: the query, the version that reads it, how many tries each search may make, and the paths where more is told
+-- what is asked: the query, the version that reads it, how many tries each search may make, what is changed before, and the paths where more is told
 pub record Task : Type 0 where
   pub command : Command
   pub query : List ℕ
   pub version : Version
   pub tries : Option ℕ
+  pub changes : Option (List ℕ)
   pub detail : Option Paths
 
 -- the token to judge, or to begin after
@@ -85,5 +86,8 @@ paths_shown p = record {
 abbrev pub detail_shown : Option (Bor (FiveTables (Bor (List ℕ)))) → Option Paths
 detail_shown detail = option_map (λ paths. paths_shown paths.now) detail
 
+abbrev pub changes_shown : Option (Bor (List ℕ)) → Option (List ℕ)
+changes_shown changes = option_map (λ t. t.now) changes
+
 abbrev pub task_of : Job → Task
-task_of job = record { command = command_shown job.command; query = job.query.now; version = job.version; tries = job.tries; detail = detail_shown job.detail }
+task_of job = record { command = command_shown job.command; query = job.query.now; version = job.version; tries = job.tries; changes = changes_shown job.changes; detail = detail_shown job.detail }

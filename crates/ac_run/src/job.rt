@@ -76,6 +76,8 @@ pub struct Job<'a> {
     pub version: Version,
     /// How many tries each search may make; without a number, as many as it takes.
     pub tries: Option<u64>,
+    /// What is changed of the cloud before anything is asked of it, a line each.
+    pub changes: Option<&'a [u8]>,
     /// The paths of the tables' files, where more is told: behind the line of a refusal what to do about it, of a verdict of what a rule is broken, and in the
     /// note of a run where the service may answer otherwise.
     pub detail: Option<&'a Paths<'a>>,

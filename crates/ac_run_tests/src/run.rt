@@ -353,6 +353,7 @@ fn left_by(rt: &(impl Abort + AllocGlobal), case: &Case, turns: Turns) -> Result
         query: query.as_str(),
         version: case.version,
         tries: None,
+        changes: None,
         detail: if turns.detail { Some(&PATHS) } else { None },
     };
     run_over(alloc, &case.rows, &job, turns)

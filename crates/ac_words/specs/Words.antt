@@ -58,9 +58,13 @@ with_tables app =
 abbrev pub with_detail : App → App
 with_detail app = with_rule app (flag_rule (codes "detail"))
 
--- the options of a command over tables: those of the tables, and whether more is said
+-- the file of changes
+abbrev pub with_change : App → App
+with_change app = with_rule app (option_rule (codes "change"))
+
+-- the options of a command over tables: those of the tables, what is changed of them, and whether more is said
 abbrev pub with_common : App → App
-with_common app = with_detail (with_tables app)
+with_common app = with_detail (with_change (with_tables app))
 
 -- the version that reads queries
 abbrev pub with_version : App → App
@@ -293,6 +297,7 @@ pub record Line : Type 0 where
   pub call : Call
   pub version : Version
   pub tries : Option ℕ
+  pub changes : Option Text
   pub detail : Bool
   pub paths : Paths
 
@@ -313,14 +318,17 @@ abbrev pub calls_answer : Call → Bool
 calls_answer (beside path query) = true
 calls_answer _ = false
 
--- the task that they ask for, with these bytes of that file, and with these paths where more is told; none where they ask for a session
-abbrev pub task_in : Line → Text → Option Paths → Option Task
-task_in line file detail = task_called line.call
+-- the task that they ask for, with these bytes of that file, with these changes, and with these paths where more is told; none where they ask for a session
+abbrev pub task_in : Line → Text → Option Text → Option Paths → Option Task
+task_in line file changes detail = task_called line.call
   where
+    abbrev task : Command → Text → Option Task
+    task command query = Some (record { command = command; query = query; version = line.version; tries = line.tries; changes = changes; detail = detail })
+
     task_called : Call → Option Task
-    task_called (plan path metrics) = Some (record { command = capacity file metrics; query = []; version = line.version; tries = line.tries; detail = detail })
-    task_called (beside path query) = Some (record { command = compare file; query = query; version = line.version; tries = line.tries; detail = detail })
-    task_called (job command query) = Some (record { command = command; query = query; version = line.version; tries = line.tries; detail = detail })
+    task_called (plan path metrics) = task (capacity file metrics) []
+    task_called (beside path query) = task (compare file) query
+    task_called (job command query) = task command query
     task_called session = None
 
 -- a command with its query, without the path of a URL before it
@@ -419,6 +427,7 @@ pub record IsMadeOf (name : Name) (rows : List Row) (line : Line) : Type 0 where
   pub call : call_of name rows ≡ Some line.call
   pub version : version_of rows ≡ Some line.version
   pub tries : tries_of rows ≡ Some line.tries
+  pub changes : first_of (codes "change") rows ≡ line.changes
   pub detail : detail_of rows ≡ line.detail
   pub paths : needed_paths name rows ≡ Some line.paths
 

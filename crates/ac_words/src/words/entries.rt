@@ -294,7 +294,7 @@ fn words_with<'a>(
     alloc: Global,
     name: Name,
     call: Call<'a>,
-    entries: &ArgMatches<'_>,
+    entries: &ArgMatches<'a>,
 ) -> Result<Words<'a>, WordFault>
     requires { call_of name (rows_of (found_of entries.now)) ≡ Some (call_shown call) }
     ensures entries { IfOk result (IsMadeOf name (rows_of (found_of entries.now))) }
@@ -305,11 +305,13 @@ fn words_with<'a>(
     let version = version(alloc, name, entries)?;
     let tries = options(alloc, name, entries)?;
     let paths = needed_paths(alloc, name, entries)?;
+    let changes = entry(entries, "change");
     let detail = is_set(entries, "detail");
     Ok(Words {
         call,
         version,
         tries,
+        changes,
         detail,
         paths,
     })

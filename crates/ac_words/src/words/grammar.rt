@@ -2,7 +2,7 @@
 ghost use Rattle.std.specs.Prelude.{◌≡◌, IfOk, false};
 ghost use Rattle.clap.specs.Words.{app_of, rule_of};
 ghost use Rattle.clap.specs.declared.builder.command.Command.TheViews.{out-Command as fields_of};
-ghost use Rattle.ac_words.specs.Words.{app_for, audit_app, candidates_app, capacity_app, compare_app, check_app, explain_app, fill_app, flag_rule, free_rule, hosts_app, list_app, option_rule, program, query_app, reading_app, search_app, session_app, shown_app, tokens_app, verify_app, why_app, with_common, with_detail, with_options, with_tables, with_tries, with_version, word_rule};
+ghost use Rattle.ac_words.specs.Words.{app_for, audit_app, candidates_app, capacity_app, compare_app, check_app, explain_app, fill_app, flag_rule, free_rule, hosts_app, list_app, option_rule, program, query_app, reading_app, search_app, session_app, shown_app, tokens_app, verify_app, why_app, with_change, with_common, with_detail, with_options, with_tables, with_tries, with_version, word_rule};
 
 use super::help;
 use crate::name::Name;
@@ -114,13 +114,29 @@ fn add_detail<'a>(alloc: Global, command: Command<'a>) -> Result<Command<'a>, Al
     ))
 }
 
-// Adds the options of a command over tables: those of the tables, and whether more is said.
+// Adds the file of changes.
+fn add_change<'a>(alloc: Global, command: Command<'a>) -> Result<Command<'a>, AllocError>
+    ensures app { IfOk result (λ c. app_of c ≡ with_change (app_of command.entry)) }
+    ensures local { (fields_of command.entry).has_globals ≡ false
+        → IfOk result (λ c. (fields_of c).has_globals ≡ false) }
+{
+    command.arg(option(
+        alloc,
+        "change",
+        "FILE",
+        "What if: a change a line, made before the question: `disable HOST`, `enable HOST`, `remove HOST`, \
+         `set WHERE CLASS FIELD VALUE`, `trait WHERE +NAME`, `aggregate WHERE +UUID`",
+    ))
+}
+
+// Adds the options of a command over tables: those of the tables, what is changed of them, and whether more is said.
 fn add_common<'a>(alloc: Global, command: Command<'a>) -> Result<Command<'a>, AllocError>
     ensures app { IfOk result (λ c. app_of c ≡ with_common (app_of command.entry)) }
     ensures local { (fields_of command.entry).has_globals ≡ false
         → IfOk result (λ c. (fields_of c).has_globals ≡ false) }
 {
     let command = add_tables(alloc, command)?;
+    let command = add_change(alloc, command)?;
     add_detail(alloc, command)
 }
 
