@@ -22,8 +22,8 @@ sys.path += [os.path.join(os.path.dirname(HERE), 'tools'), *(os.path.join(HERE, 
 
 from audits import drawn_audits
 from cases import AUDIT_HEAD, CAPACITY_HEAD, CHILD, ODD_FLAVORS, ONE, PLANTED, SHARED, SMALL, SOME, TWO_FIT, TWO_SHORT, Case, cuts, full, lines, tables
-from cliffs import cliffs
 from changes import changes
+from cliffs import cliffs
 from compares import BOTH, MIXED, NO_REQUEST, compares
 from database import database_exports
 from examples import examples
