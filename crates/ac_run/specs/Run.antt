@@ -62,14 +62,6 @@ pub record IsStated (changes : Option (List ℕ)) (b : Bytes) (world : World) : 
   pub made : change_fault changes (world_stated (tables_in b)) ≡ None
   pub states : world ≡ world_in changes b
 
--- why the tables of feeds state no world: a feed failed, a table has too many bytes, or the tables have a fault; or memory gave out
-abbrev pub ExplainsInputs : {R : Type 0} → (R → Option (List ℕ)) → (R → ℕ) → FiveTables R → FiveTables R → TablesRefusal → Type 0
-ExplainsInputs remaining failures from to (tables.Unreadable t) = FeedRose failures from to t
-ExplainsInputs remaining failures from to (tables.TooLarge t) = (b : Bytes) → TellBytes remaining from b → too_large b ≡ Some t
-ExplainsInputs remaining failures from to (tables.Record t row k) =
-    (b : Bytes) → TellBytes remaining from b → (too_large b ≡ None) × (tables_fault (tables_in b) ≡ Some (fault.At t row k))
-ExplainsInputs remaining failures from to tables.NoMemory = ⊤
-
 -- Why nothing was answered, by the line that tells it and its status, where this is said of bytes: a feed failed, what is said is this very refusal, or memory
 -- gave out.
 abbrev pub Explains : {R : Type 0} → (R → Option (List ℕ)) → (R → ℕ) → Option Paths → (Bytes → Outcome) → FiveTables R → FiveTables R → List ℕ → ℕ → Type 0
