@@ -1,5 +1,5 @@
 -- The providers after an edit, by what is held.
-use Rattle.ac_change.proofs.Common.{◌≡◌, ◌∙◌, ◌∷◌, ◌&&◌, ℕ, Bool, true, false, List, [], Option, Some, None, Ok, Err, map, refl, ap, ap₂, sym, subst, inl, inr, if◌then◌else◌, list_any, cases_Bool, map-map}
+use Rattle.ac_change.proofs.Common.{◌≡◌, ◌∙◌, ◌&&◌, Bool, true, false, List, Option, Some, None, Ok, map, refl, ap, sym, inl, inr, if◌then◌else◌, list_any, cases_Bool, map-map}
 use Rattle.std.specs.Option.{option_or}
 use Rattle.std.specs.Result.{result_err}
 use Rattle.ac_base.proofs.Sorted.SearchFacts.{any_map}
@@ -10,7 +10,7 @@ use Rattle.ac_change.specs.Drafts.{AreRooted, AreWhole, all_held, edited_held, r
 use Rattle.ac_change.specs.Faults.{TellsKind}
 use Rattle.ac_change.specs.Held.{provider_held}
 use Rattle.ac_change.specs.Marked.{is_marked}
-use Rattle.ac_change.specs.Trees.{AreTrees, ids_in, parents_in}
+use Rattle.ac_change.specs.Trees.{ids_in, parents_in}
 use Rattle.ac_change.specs.declared.fault.ChangeKind.{ChangeKind}
 use Rattle.ac_change.specs.declared.fault.ChangeKind.TheVariants as kind
 use Rattle.ac_change.specs.declared.fault.Failed.{Failed}

@@ -1,5 +1,5 @@
 -- The cloud of providers that are held.
-use Rattle.ac_change.proofs.Common.{All, ◌≡◌, ◌<◌, ◌≤◌, ◌^◌, ◌+◌, ◌∙◌, ◌∷◌, ℕ, List, [], Option, None, map, length, get_or, refl, ap, ap₂, sym, subst, arith, option_and_then, length-map, map-map, keys_of, nat_cmp}
+use Rattle.ac_change.proofs.Common.{All, ◌≡◌, ◌<◌, ◌≤◌, ◌^◌, ◌+◌, ◌∙◌, ◌∷◌, ℕ, List, [], Option, map, length, get_or, refl, ap, ap₂, sym, subst, arith, option_and_then, length-map, map-map, nat_cmp}
 use Rattle.std.specs.List.{AllByRecursion, sum_by}
 use Rattle.std.specs.List.Sorted.{IsStrictlySortedBy}
 use Rattle.std.proofs.lemmas.List.Elements.{All-from_recursion}
@@ -19,9 +19,9 @@ use Rattle.ac_cloud.specs.declared.cloud.entry.Entry.{Entry}
 use Rattle.ac_change.specs.Changes.{counted, sizes_told}
 use Rattle.ac_change.specs.Drafts.{AreWhole, all_held}
 use Rattle.ac_change.specs.Held.{provider_held}
-use Rattle.ac_change.specs.Trees.{AreTrees, ids_in}
+use Rattle.ac_change.specs.Trees.{ids_in}
 use Rattle.ac_change.specs.declared.draft.held.Held.{Held}
-use Rattle.ac_change.proofs.Forests.{forest, numbered_again, places_in, places_known, places_sized}
+use Rattle.ac_change.proofs.Forests.{forest, numbered_again, places_in, places_known}
 
 -- what holds of what is made of every item
 all_made : {X Y : Type 0} (P : Y → Type 0) (f : X → Y) → ((x : X) → P (f x)) → (xs : List X) → AllByRecursion P (map f xs)

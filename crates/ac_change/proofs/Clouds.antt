@@ -1,19 +1,19 @@
 -- What holds of the providers of a cloud.
-use Rattle.ac_change.proofs.Common.{◌≡◌, ◌<◌, ◌≤◌, ◌^◌, ◌∙◌, ℕ, true, List, [], Option, Some, None, IfSome, map, length, get_or, refl, ap, sym, subst, is_some, option_and_then, option_map, length-map, map-map, get_or-map, nat_cmp, arith, keys_of}
+use Rattle.ac_change.proofs.Common.{◌≡◌, ◌<◌, ◌^◌, ◌∙◌, ℕ, true, List, [], Option, Some, None, IfSome, map, length, get_or, refl, ap, sym, subst, is_some, option_and_then, option_map, length-map, map-map, arith, keys_of}
 use Rattle.std.specs.List.{All}
 use Rattle.std.specs.List.Sorted.{IsStrictlySortedBy}
 use Rattle.ac_base.specs.Names.{trait_bytes}
 use Rattle.ac_base.specs.Sorted.{TextMap}
 use Rattle.ac_base.specs.Texts.{text_cmp}
-use Rattle.ac_cloud.proofs.Places.CloudFacts.{inside, size, id_here, place_here, parent_here, inventory_records_here, traits_here, aggregates_here, parts}
+use Rattle.ac_cloud.proofs.Places.CloudFacts.{inside, size, id_here, place_here, parent_here, inventory_records_here, traits_here, parts}
 use Rattle.ac_cloud.proofs.Rising.{rank_at}
 use Rattle.ac_cloud.proofs.Trees.LawFacts.{cloud_is_forest}
 use Rattle.ac_cloud.specs.Cloud.CloudWorld.{providers_of}
-use Rattle.ac_cloud.specs.Cloud.Entries.{entry_class, entry_pair}
-use Rattle.ac_cloud.specs.Cloud.Places.{parent_in, rank}
+use Rattle.ac_cloud.specs.Cloud.Entries.{entry_pair}
+use Rattle.ac_cloud.specs.Cloud.Places.{parent_in}
 use Rattle.ac_cloud.specs.Cloud.RisingIds.{IsRising}
 use Rattle.ac_cloud.specs.ListsOf.{lists_of}
-use Rattle.ac_cloud.specs.World.{Provider, UsedInventory, provider_at, id_at, parent_of, place_of, root_of}
+use Rattle.ac_cloud.specs.World.{Provider, UsedInventory, provider_at, id_at, parent_of, place_of}
 use Rattle.ac_cloud.specs.declared.cloud.Cloud.{Cloud}
 use Rattle.ac_cloud.specs.declared.cloud.entry.Entry.{Entry}
 use Rattle.ac_base.specs.declared.name.TraitName.{TraitName}

@@ -1,5 +1,5 @@
 -- The providers without one tree: the other trees stay as they are.
-use Rattle.ac_change.proofs.Common.{All, IfSome, ◌≡◌, ◌≢◌, ◌<◌, ◌≤◌, ◌^◌, ◌+◌, ◌-◌, ◌∙◌, ◌∷◌, ◌++◌, ◌==◌, ◌||◌, ℕ, zero, suc, Bool, true, false, List, [], Option, Some, None, not, filter, map, length, get_or, nat_cmp, refl, ap, ap₂, sym, subst, inl, inr, arith, if◌then◌else◌, is_some, list_any, option_and_then, unwrap_or, cases_Bool, cases_lt, false≢true, length-map, append_assoc}
+use Rattle.ac_change.proofs.Common.{All, IfSome, ◌≡◌, ◌≢◌, ◌<◌, ◌≤◌, ◌^◌, ◌+◌, ◌-◌, ◌∙◌, ◌∷◌, ◌++◌, ◌==◌, ℕ, zero, suc, Bool, true, false, List, [], Option, Some, None, not, filter, length, get_or, nat_cmp, refl, ap, sym, subst, inl, inr, arith, if◌then◌else◌, is_some, list_any, option_and_then, unwrap_or, cases_Bool, length-map, append_assoc}
 use Rattle.std.specs.Prelude.{find}
 use Rattle.std.specs.List.{AllByRecursion, IsDistinct, position_from}
 use Rattle.std.specs.List.Sorted.{IsStrictlySortedBy}
@@ -10,12 +10,12 @@ use Rattle.std.proofs.lemmas.List.Elements.{All-from_recursion, recursion_from_A
 use Rattle.std.proofs.lemmas.List.Kept.{IsStrictlySortedBy-filter}
 use Rattle.std.proofs.lemmas.Map.Keys.{sorted_from_strictly_increasing}
 use Rattle.std.proofs.lemmas.Map.Made.{length-le_from_is_member}
-use Rattle.ac_base.proofs.Small.{are_equal, clash, differ, equal, none_is, some_or_none}
+use Rattle.ac_base.proofs.Small.{are_equal, clash, differ, none_is, some_or_none}
 use Rattle.ac_base.proofs.Sorted.SearchFacts.{is_eq_nat}
 use Rattle.ac_cloud.proofs.Rising.{rank_at, rising_from_sorted}
 use Rattle.ac_cloud.proofs.Roots.{stays}
 use Rattle.ac_cloud.specs.Cloud.RisingIds.{IsRising}
-use Rattle.ac_cloud.specs.Trees.{climb, top, up}
+use Rattle.ac_cloud.specs.Trees.{climb, up}
 use Rattle.ac_cloud.specs.World.{Provider, no_provider, provider_at, id_at, is_provider, parent_of, place_of, root_of}
 use Rattle.ac_change.specs.Changes.{without_tree}
 use Rattle.ac_change.specs.Laws.{OtherTreesStay}

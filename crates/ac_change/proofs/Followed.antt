@@ -1,5 +1,5 @@
 -- Changes that follow one another.
-use Rattle.ac_change.proofs.Common.{◌≡◌, ◌∙◌, ◌∷◌, ℕ, List, [], Option, Some, None, Result, Ok, Err, map, refl, ap, sym, subst}
+use Rattle.ac_change.proofs.Common.{◌≡◌, ◌∷◌, ℕ, List, Result, Ok, Err, ap}
 use Rattle.std.specs.Result.{result_err}
 use Rattle.ac_cloud.specs.World.{Provider}
 use Rattle.ac_change.specs.Changes.{Change, all_changed, and_then, changed, told_at}

@@ -1,5 +1,5 @@
 -- Providers by their places, as a cloud is built of them.
-use Rattle.ac_change.proofs.Common.{◌≡◌, ◌<◌, ◌≤◌, ◌+◌, ◌∙◌, ◌∷◌, ◌==◌, ℕ, zero, suc, true, false, List, [], Option, Some, None, IfSome, map, length, get_or, refl, ap, ap₂, sym, subst, inl, inr, arith, is_some, option_and_then, option_map, length-map, map-map}
+use Rattle.ac_change.proofs.Common.{◌≡◌, ◌<◌, ◌∙◌, ◌==◌, ℕ, true, List, Option, Some, None, IfSome, map, length, get_or, refl, ap, ap₂, sym, arith, is_some, option_and_then, option_map, length-map}
 use Rattle.std.proofs.Math.ListN.{get_or-map}
 use Rattle.std.proofs.lemmas.List.{ext_get_or}
 use Rattle.std.proofs.lemmas.Iterator.Adapters.{position_from-zero}
@@ -12,9 +12,9 @@ use Rattle.ac_cloud.specs.Cloud.Forests.{IsForest}
 use Rattle.ac_cloud.specs.Cloud.Numbered.{numbered, numbered_at}
 use Rattle.ac_cloud.specs.Cloud.Places.{AreParents, AreWithin, parent_in, rank}
 use Rattle.ac_cloud.specs.Trees.{top}
-use Rattle.ac_cloud.specs.World.{Provider, no_provider, provider_at, id_at, parent_of, place_of, root_of}
-use Rattle.ac_change.specs.Trees.{AreTrees, ids_in, parents_in}
-use Rattle.ac_change.proofs.Trees.{id_here, parent_here, place_ids}
+use Rattle.ac_cloud.specs.World.{Provider, no_provider, provider_at, parent_of, place_of}
+use Rattle.ac_change.specs.Trees.{AreTrees, ids_in}
+use Rattle.ac_change.proofs.Trees.{id_here, place_ids}
 
 -- the places of all parents
 abbrev pub places_in : List Provider → List (Option ℕ)

@@ -1,5 +1,5 @@
 -- What is gained and then lost.
-use Rattle.ac_change.proofs.Common.{All, ◌≡◌, ◌∙◌, ◌∷◌, ◌++◌, ◌&&◌, ◌==◌, ℕ, Bool, true, false, List, [], Option, Some, None, Result, Ok, Err, not, filter, map, length, get_or, refl, ap, ap₂, sym, subst, inl, inr, if◌then◌else◌, is_eq, is_lt, bytes_eq, list_any, option_and_then, cases_Bool, map-id, map-map, IsTotalOrder}
+use Rattle.ac_change.proofs.Common.{◌≡◌, ◌∙◌, ◌∷◌, ◌++◌, ◌&&◌, ℕ, Bool, true, false, List, [], Option, Some, None, Result, Ok, Err, not, filter, map, length, get_or, refl, ap, ap₂, sym, subst, inl, inr, if◌then◌else◌, is_eq, is_lt, bytes_eq, list_any, option_and_then, cases_Bool, map-id, map-map, IsTotalOrder}
 use Rattle.std.proofs.Common.{Less, Equal, Greater}
 use Rattle.std.specs.List.{AllByRecursion, range_with_len}
 use Rattle.std.specs.List.Sorted.{IsStrictlySortedBy}
@@ -17,14 +17,13 @@ use Rattle.ac_base.specs.Texts.{id_value, text_cmp}
 use Rattle.ac_cloud.proofs.ListFacts.{map_same}
 use Rattle.ac_cloud.specs.Cloud.Hosts.{host_of, place_or_only, places_named}
 use Rattle.ac_cloud.specs.Cloud.Places.{rank}
-use Rattle.ac_cloud.specs.World.{Provider, has_name, has_trait, id_at, no_provider, place_of, provider_at, root_of}
+use Rattle.ac_cloud.specs.World.{Provider, has_trait, id_at, no_provider, place_of, provider_at, root_of}
 use Rattle.ac_cloud.specs.declared.cloud.provider_name.HostFault.{HostFault}
 use Rattle.ac_cloud.specs.declared.cloud.provider_name.HostFault.TheVariants as host_fault
-use Rattle.ac_change.specs.Changes.{Change, Edit, Scope, and_then, changed, edit, edit_fault, edited, edited_in, found_id, gains, host_id, host_root, is_found, is_touched, joins, leaves, loses, root, scope_fault, sets, spoils, spoils_in, unless, with_item, without_item}
+use Rattle.ac_change.specs.Changes.{Edit, and_then, changed, edit_fault, edited, edited_in, found_id, gains, host_id, host_root, is_found, is_touched, joins, leaves, loses, root, scope_fault, sets, unless, with_item, without_item}
 use Rattle.ac_change.specs.Laws.{AreNamedInOrder, AreWithout, LosesWhatItGained}
-use Rattle.ac_change.specs.Trees.{ids_in, parents_in}
+use Rattle.ac_change.specs.Trees.{ids_in}
 use Rattle.ac_change.specs.declared.fault.ChangeKind.{ChangeKind}
-use Rattle.ac_change.proofs.AfterEdit.{same_id, same_parent}
 use Rattle.ac_change.proofs.KeptTrees.{edits_keep_trees, ids_stay}
 use Rattle.ac_change.proofs.Removed.{same_each}
 use Rattle.ac_change.proofs.Trees.{place_ids}

@@ -1,12 +1,12 @@
 -- What an edit leaves as it is.
-use Rattle.ac_change.proofs.Common.{◌≡◌, ◌<◌, ◌∙◌, ◌∷◌, ℕ, Bool, true, false, List, [], map, length, get_or, get_or-map, refl, ap, sym, inl, inr, if◌then◌else◌, cases_Bool, length-map, map-map}
+use Rattle.ac_change.proofs.Common.{◌≡◌, ◌∙◌, ℕ, Bool, List, map, get_or, get_or-map, refl, ap, sym, inl, inr, if◌then◌else◌, cases_Bool, length-map, map-map}
 use Rattle.ac_cloud.proofs.ListFacts.{map_same}
-use Rattle.ac_cloud.specs.World.{Provider, no_provider, id_at, parent_of, provider_at, root_of}
-use Rattle.ac_change.specs.Changes.{Edit, Scope, edited, edited_in, is_touched}
+use Rattle.ac_cloud.specs.World.{Provider, no_provider}
+use Rattle.ac_change.specs.Changes.{Edit, edited, is_touched}
 use Rattle.ac_change.specs.Laws.{AreSameTrees, EditsKeepTrees, OthersStay}
 use Rattle.ac_change.specs.Trees.{ids_in, parents_in}
 use Rattle.ac_change.proofs.AfterEdit.{same_id, same_parent}
-use Rattle.ac_change.proofs.Trees.{id_here, same_parent as parent_stays, same_root, same_size}
+use Rattle.ac_change.proofs.Trees.{id_here, same_parent as parent_stays, same_root}
 
 module _ (test : Provider → Bool) (e : Edit) where
   abbrev one : Provider → Provider

@@ -1,5 +1,5 @@
 -- The lines of a text, read one by one.
-use Rattle.ac_change.proofs.Common.{◌≡◌, ◌<◌, ◌≤◌, ◌+◌, ◌∙◌, ◌∷◌, ◌++◌, ℕ, List, [], Option, Some, None, drop, drop-cons, length, get_or, refl, ap, ap₂, sym, subst, suc, arith, append-nil, append_assoc}
+use Rattle.ac_change.proofs.Common.{◌≡◌, ◌<◌, ◌≤◌, ◌+◌, ◌∙◌, ◌∷◌, ◌++◌, ℕ, List, [], Option, Some, None, drop, drop-cons, length, get_or, ap, ap₂, sym, subst, suc, arith, append-nil, append_assoc}
 use Rattle.std.specs.Option.{option_or}
 use Rattle.std.proofs.Math.ListN.{drop_of_length-le}
 use Rattle.ac_change.specs.Changes.{Change}

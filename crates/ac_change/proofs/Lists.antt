@@ -1,5 +1,5 @@
 -- Lists whose items are tested, one by one and all.
-use Rattle.ac_change.proofs.Common.{◌≡◌, ◌<◌, ◌∙◌, ◌++◌, ◌∷◌, ◌+◌, ℕ, zero, suc, Bool, true, false, List, [], map, filter, take, length, get_or, get_or-map, length-map, refl, sym, ap, inl, inr, arith, list_any, cases_Bool, is_lt, IsTotalOrder}
+use Rattle.ac_change.proofs.Common.{◌≡◌, ◌<◌, ◌∙◌, ◌++◌, ◌∷◌, ℕ, Bool, true, false, List, [], map, filter, length, get_or, get_or-map, length-map, sym, ap, inl, inr, arith, list_any, cases_Bool, is_lt, IsTotalOrder}
 use Rattle.std.proofs.Common.{Less}
 use Rattle.std.specs.List.{AllByRecursion}
 use Rattle.std.specs.List.Sorted.{IsStrictlySortedBy}

@@ -1,8 +1,8 @@
 -- The providers that are held, without one tree.
-use Rattle.ac_change.proofs.Common.{◌≡◌, ◌<◌, ◌∙◌, ◌∷◌, ◌==◌, ℕ, Bool, true, false, List, [], Option, Some, None, Result, Ok, Err, not, filter, map, refl, ap, ap₂, sym, subst, inl, inr, cases_Bool, map-map}
+use Rattle.ac_change.proofs.Common.{◌≡◌, ◌∙◌, ◌∷◌, ◌==◌, ℕ, Bool, true, List, [], Some, Ok, Err, not, filter, map, refl, ap, ap₂, sym, subst, inl, inr, cases_Bool, map-map}
 use Rattle.std.specs.List.{AllByRecursion}
 use Rattle.std.specs.Result.{result_err}
-use Rattle.ac_cloud.specs.World.{Provider, no_provider, provider_at, root_of}
+use Rattle.ac_cloud.specs.World.{Provider, root_of}
 use Rattle.ac_change.specs.Changes.{and_then, changed, host_root, remove, without_tree}
 use Rattle.ac_change.specs.Drafts.{AreRooted, AreWhole, all_held, roots_held, roots_in}
 use Rattle.ac_change.specs.Held.{provider_held}

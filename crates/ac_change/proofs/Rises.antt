@@ -1,5 +1,5 @@
 -- What a provider has stays in order through an edit.
-use Rattle.ac_change.proofs.Common.{◌≡◌, ◌∙◌, ◌∷◌, ℕ, true, false, List, [], map, filter, not, refl, ap, ap₂, subst, sym, inl, inr, nat_cmp, is_eq, bytes_eq, cases_Bool, keys_of}
+use Rattle.ac_change.proofs.Common.{◌≡◌, ◌∙◌, ◌∷◌, ℕ, List, [], map, not, refl, ap, ap₂, subst, sym, inl, inr, nat_cmp, is_eq, bytes_eq, cases_Bool, keys_of}
 use Rattle.std.specs.List.Sorted.{IsStrictlySortedBy}
 use Rattle.std.proofs.lemmas.Cmp.{nat_cmp_total, nat_list_cmp_total}
 use Rattle.std.proofs.lemmas.List.Kept.{IsStrictlySortedBy-filter}

@@ -1,5 +1,5 @@
 -- Whom an edit touches, by what is held.
-use Rattle.ac_change.proofs.Common.{◌≡◌, ◌<◌, ◌+◌, ◌∙◌, ◌∷◌, ◌&&◌, ◌||◌, ◌==◌, ℕ, Bool, true, false, List, [], Option, Some, None, Result, Ok, Err, IfSome, map, length, get_or, filter, take, nat_cmp, refl, ap, ap₂, sym, inl, inr, if◌then◌else◌, arith, list_any, cases_Bool, get_or-map, length-map, map-map}
+use Rattle.ac_change.proofs.Common.{◌≡◌, ◌<◌, ◌+◌, ◌∙◌, ◌∷◌, ◌&&◌, ◌||◌, ◌==◌, ℕ, Bool, true, false, List, [], Option, Some, None, Result, Ok, IfSome, map, length, get_or, filter, take, nat_cmp, refl, ap, ap₂, sym, if◌then◌else◌, arith, list_any, get_or-map, map-map}
 use Rattle.std.proofs.Math.Bool.{or-false}
 use Rattle.std.proofs.lemmas.Cmp.{nat_cmp_total}
 use Rattle.std.proofs.lemmas.List.Folds.{list_any_more}
@@ -12,10 +12,9 @@ use Rattle.std.specs.BTreeSet.{BTreeSet}
 use Rattle.ac_base.proofs.Sorted.SearchFacts.{any_map, any_same, is_eq_nat}
 use Rattle.ac_cloud.proofs.ListFacts.{map_same}
 use Rattle.ac_cloud.specs.Cloud.Hosts.{host_of}
-use Rattle.ac_cloud.specs.World.{Provider, id_at, is_member, is_provider, no_provider, place_of, root_of}
-use Rattle.ac_cloud.specs.declared.cloud.provider_name.HostFault.{HostFault}
+use Rattle.ac_cloud.specs.World.{id_at, is_member, is_provider, no_provider, place_of, root_of}
 use Rattle.ac_change.specs.Changes.{and_then, found_id, has_member, host_id, host_root, is_found}
-use Rattle.ac_change.specs.Drafts.{AreRooted, all_held, roots_held, roots_in}
+use Rattle.ac_change.specs.Drafts.{AreRooted, all_held}
 use Rattle.ac_change.specs.Held.{provider_held}
 use Rattle.ac_change.specs.Marked.{is_marked}
 use Rattle.ac_change.specs.declared.fault.ChangeKind.{ChangeKind}

@@ -1,5 +1,5 @@
 -- Trees of providers, by their ids and parents alone.
-use Rattle.ac_change.proofs.Common.{All, ◌≡◌, ◌<◌, ◌≤◌, ◌^◌, ◌+◌, ◌∙◌, ◌∷◌, ◌==◌, ℕ, true, false, List, [], Option, Some, None, IfSome, map, length, get_or, refl, ap, ap₂, sym, subst, inl, inr, if◌then◌else◌, arith, is_some, option_and_then, option_map, cases_Bool, length-map}
+use Rattle.ac_change.proofs.Common.{All, ◌≡◌, ◌<◌, ◌≤◌, ◌^◌, ◌+◌, ◌∙◌, ◌∷◌, ◌==◌, ℕ, true, List, [], Option, Some, None, IfSome, length, get_or, refl, ap, ap₂, sym, subst, if◌then◌else◌, is_some, option_and_then, length-map}
 use Rattle.std.specs.List.{position_from}
 use Rattle.std.proofs.Math.Path.{fun_ext}
 use Rattle.std.proofs.Math.ListN.{get_or-map}

@@ -1,5 +1,5 @@
 -- Changes of a cloud: the providers that they leave, or why one of them can't be made.
-use Rattle.std.specs.Prelude.{ℕ, Bool, true, false, ◌&&◌, ◌+◌, ◌==◌, not, nat_lt, List, [], ◌∷◌, ◌++◌, map, length, Option, Some, None, Result, Ok, Err, if◌then◌else◌}
+use Rattle.std.specs.Prelude.{ℕ, Bool, true, false, ◌&&◌, ◌==◌, not, nat_lt, List, [], ◌∷◌, ◌++◌, map, length, Option, Some, None, Result, Ok, Err, if◌then◌else◌}
 use Rattle.std.specs.Option.{option_or}
 use Rattle.std.specs.Result.{result_err}
 use Rattle.std.specs.List.{filter, list_any, sum_by}
@@ -7,7 +7,6 @@ use Rattle.std.specs.Ordering.{is_eq, is_lt, nat_cmp}
 use Rattle.std.specs.Str.{bytes_eq}
 use Rattle.std.specs.declared.cmp.Ordering.{Ordering}
 use Rattle.ac_base.specs.Quantities.{InventoryNumbers, is_inventory}
-use Rattle.ac_base.specs.Sorted.{TextMap}
 use Rattle.ac_base.specs.Texts.{text_cmp}
 use Rattle.ac_cloud.specs.Cloud.Hosts.{host_of}
 use Rattle.ac_cloud.specs.World.{Provider, Sizes, UsedInventory, World, id_at, is_member, root_of}

@@ -1,5 +1,5 @@
 -- The providers of a draft.
-use Rattle.std.specs.Prelude.{◌≡◌, ℕ, Bool, List, map, if◌then◌else◌}
+use Rattle.std.specs.Prelude.{◌≡◌, ℕ, List, map, if◌then◌else◌}
 use Rattle.std.proofs.Props.{props}
 use Rattle.ac_cloud.specs.World.{Provider, root_of}
 use Rattle.ac_change.specs.Changes.{Edit, edited}

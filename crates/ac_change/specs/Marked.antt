@@ -1,5 +1,5 @@
 -- Whom an edit touches, as it is held.
-use Rattle.std.specs.Prelude.{ℕ, Bool, true, ◌==◌}
+use Rattle.std.specs.Prelude.{Bool, true, ◌==◌}
 use Rattle.ac_base.specs.Sorted.{is_one_of}
 use Rattle.ac_change.specs.declared.draft.held.Held.{Held}
 use Rattle.ac_change.specs.declared.draft.touched.Touched.{Touched}

@@ -19,8 +19,8 @@ use ac_base::{Feed, FromRead, Gathering, Sink, push_all};
 use ac_query::Version;
 use ac_remedies::unread_remedy;
 use ac_run::{
-    AnswerRefusal, AskRefusal, ChangesRefusal, Command, FlavorsRefusal, Inputs, Job, Paths, Refusal, Refused,
-    TablesRefusal, run, tell,
+    AnswerRefusal, AskRefusal, ChangesRefusal, Command, FlavorsRefusal, Inputs, Job, Paths,
+    Refusal, Refused, TablesRefusal, run, tell,
 };
 use ac_session::{Lines, run_session};
 use ac_words::{WordFault, Words, read_words};
@@ -122,7 +122,9 @@ fn held<F: Feed, Q: Feed + Drop, W: Sink + Drop, E: Sink>(
         (seen W.taken W.failures E.taken E.failures out result.1 err.old err.new) result.0 }
 {
     match Lines::new(alloc, questions) {
-        Ok(mut lines) => run_session(alloc, version, tries, detail, changes, inputs, &mut lines, out, err),
+        Ok(mut lines) => run_session(
+            alloc, version, tries, detail, changes, inputs, &mut lines, out, err,
+        ),
         Err(_) => (tell(err, &Refused::of(alloc, Refusal::NoMemory)), out),
     }
 }
@@ -270,7 +272,11 @@ fn changes_of<'a, H: Host>(
 fn beside_of(words: &Words) -> Beside
     ensures { result ≡ beside_called words.now.call }
 {
-    if words.has_answer() { Beside::Answer } else { Beside::Flavors }
+    if words.has_answer() {
+        Beside::Answer
+    } else {
+        Beside::Flavors
+    }
 }
 
 // The paths of the words, where more is to be told.
@@ -338,16 +344,31 @@ fn answer_tabled<H: Host + AllocGlobal, Q: Feed + Drop, W: Sink + Drop, E: Sink>
     let changes = match changes_of(alloc, host, words) {
         Ok(changes) => changes,
         Err((path, unread)) => {
-            return (tell_unread(alloc, Beside::Changes, detail, path, unread, err), out);
+            return (
+                tell_unread(alloc, Beside::Changes, detail, path, unread, err),
+                out,
+            );
         }
     };
     let file = match file_of(alloc, host, words) {
         Ok(file) => file,
         Err((path, unread)) => {
-            return (tell_unread(alloc, beside_of(words), detail, path, unread, err), out);
+            return (
+                tell_unread(alloc, beside_of(words), detail, path, unread, err),
+                out,
+            );
         }
     };
-    answer_opened(alloc, words, &file, changes.as_deref(), &mut inputs, questions, out, err)
+    answer_opened(
+        alloc,
+        words,
+        &file,
+        changes.as_deref(),
+        &mut inputs,
+        questions,
+        out,
+        err,
+    )
 }
 
 // Does what accepted words ask for that is about no tables: over their headers.

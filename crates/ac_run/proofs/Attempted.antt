@@ -147,8 +147,12 @@ module _ {R : Type 0} (remaining : R → Option (List ℕ)) (failures : R → �
       unchanged : (refusal : TablesRefusal) → ExplainsChanges (change_fault made world) refusal
           → IsWhy (line_of_tables refusal ++ behind detail (λ _. changes_remedy refusal)) (status_of_tables refusal)
       unchanged (tables.Changes (changes.At row kind)) h =
-          inr (inl (omega arith, omega arith, λ b tell. ap (λ b. past_tables detail made b say) (sym (told b tell))
-          ∙ unmade detail made texts say (row, kind) few fine (ap (change_fault made) (sym stated) ∙ h)))
+          inr (inl (
+            omega arith,
+            omega arith,
+            λ b tell. ap (λ b. past_tables detail made b say) (sym (told b tell))
+                ∙ unmade detail made texts say (row, kind) few fine (ap (change_fault made) (sym stated) ∙ h),
+          ))
       unchanged (tables.Changes changes.Unreadable) h = absurd h
       unchanged (tables.Changes changes.TooLarge) h = absurd h
       unchanged (tables.Unreadable t) h = absurd h

@@ -109,11 +109,7 @@ fn change_by(alloc: Global, cloud: &Cloud, text: &[u8]) -> Result<Cloud, TablesR
 }
 
 // The cloud as changes leave it, where there are some.
-fn change_cloud(
-    alloc: Global,
-    cloud: Cloud,
-    changes: Option<&[u8]>,
-) -> Result<Cloud, TablesRefusal>
+fn change_cloud(alloc: Global, cloud: Cloud, changes: Option<&[u8]>) -> Result<Cloud, TablesRefusal>
     ensures fine { OnOk result (change_fault (changes_shown changes.entry)
         (world_of cloud) ≡ None) }
     ensures world { IfOk result (λ new. world_of new

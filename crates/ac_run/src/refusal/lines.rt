@@ -7,7 +7,9 @@ ghost use Rattle.ac_run.specs.Lines.{answer_line, group_line, line_at, pair_line
 ghost use Rattle.ac_run.specs.Refusals.{changes_line, line_of, line_of_asked, line_of_tables, line_told, status_of, status_of_asked, status_told};
 ghost use Rattle.ac_base.specs.Writing.{Pushes, TakesLine};
 
-use crate::refusal::{AnswerRefusal, AskRefusal, ChangesRefusal, FlavorsRefusal, Refusal, Refused, TablesRefusal};
+use crate::refusal::{
+    AnswerRefusal, AskRefusal, ChangesRefusal, FlavorsRefusal, Refusal, Refused, TablesRefusal,
+};
 use ac_base::{Digits, Sink, WriteFailed, push_all, push_pieces};
 use ac_change::ChangeKind;
 use ac_cloud::HostFault;

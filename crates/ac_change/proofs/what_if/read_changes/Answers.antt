@@ -1,4 +1,4 @@
-use Rattle.std.proofs.Common.{◌≡◌, ◌<◌, ◌≤◌, ◌∙◌, ℕ, List, [], arith, ap, get_or, length, map}
+use Rattle.std.proofs.Common.{◌≡◌, ◌<◌, ℕ, List, [], arith, get_or, length, map}
 use Rattle.std.proofs.lemmas.List.{length-map}
 use Rattle.std.specs.Borrow.{Bor}
 use Rattle.ac_base.proofs.Small.{handed_on}

@@ -3,7 +3,7 @@ use Rattle.std.specs.Option.{option_or}
 use Rattle.std.specs.Result.{result_err}
 use Rattle.ac_change.specs.Changes.{Change, world_changed}
 use Rattle.ac_change.specs.Faults.{TellsLine}
-use Rattle.ac_change.specs.Lines.{changes_fault, changes_said}
+use Rattle.ac_change.specs.Lines.{changes_fault}
 use Rattle.ac_change.specs.Shown.{line_shown}
 use Rattle.ac_change.specs.declared.fault.ChangeFault.{ChangeFault}
 use Rattle.ac_change.specs.declared.fault.ChangeFault.TheVariants as fault

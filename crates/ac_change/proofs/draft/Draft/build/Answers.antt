@@ -1,7 +1,6 @@
-use Rattle.std.proofs.Common.{◌≡◌, ◌<◌, ◌∙◌, ℕ, List, Option, arith, ap, get_or, length, map, option_and_then, subst, sym}
+use Rattle.std.proofs.Common.{◌≡◌, ◌∙◌, ℕ, arith, ap, length, map, option_and_then, subst, sym}
 use Rattle.std.specs.Global.{Vec}
-use Rattle.ac_cloud.specs.Cloud.Places.{AreParents, parent_in, rank}
-use Rattle.ac_cloud.specs.Trees.{top}
+use Rattle.ac_cloud.specs.Cloud.Places.{AreParents, rank}
 use Rattle.ac_change.proofs.Built.{aggregates_built, aggregates_counted, classes_built, entries_counted, few_built, fit_built, forest_built, known_built, many_built, providers_built, rising_built, sizes_built, traits_built, traits_counted}
 use Rattle.ac_change.proofs.draft.Draft.build.Goals as goal
 use Rattle.ac_change.proofs.draft.Draft.build.Goals.{In_ok-ids, In_ok-ids-2, In_ok-parents}

@@ -1,6 +1,6 @@
-use Rattle.std.proofs.Common.{◌∙◌, ◌<◌, ℕ, sym, arith, rules}
+use Rattle.std.proofs.Common.{◌∙◌, ℕ, sym, arith}
 use Rattle.ac_cloud.specs.World.{has_name, provider_at}
-use Rattle.ac_cloud.proofs.Places.HostFacts.{all_tested, first_passes, place_fails, second_passes}
+use Rattle.ac_cloud.proofs.Places.HostFacts.{first_passes, place_fails, second_passes}
 use Rattle.std.proofs.lemmas.List.{length-map}
 use Rattle.ac_change.specs.Drafts.{all_held}
 use Rattle.ac_change.specs.Held.{provider_held}
