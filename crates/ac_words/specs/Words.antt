@@ -318,17 +318,19 @@ abbrev pub calls_answer : Call → Bool
 calls_answer (beside path query) = true
 calls_answer _ = false
 
+-- the task of a command and a query, with these changes, and with these paths where more is told
+abbrev pub task_for : Line → Option Text → Option Paths → Command → Text → Task
+task_for line changes detail command query =
+    record { command = command; query = query; version = line.version; tries = line.tries; changes = changes; detail = detail }
+
 -- the task that they ask for, with these bytes of that file, with these changes, and with these paths where more is told; none where they ask for a session
 abbrev pub task_in : Line → Text → Option Text → Option Paths → Option Task
 task_in line file changes detail = task_called line.call
   where
-    abbrev task : Command → Text → Option Task
-    task command query = Some (record { command = command; query = query; version = line.version; tries = line.tries; changes = changes; detail = detail })
-
     task_called : Call → Option Task
-    task_called (plan path metrics) = task (capacity file metrics) []
-    task_called (beside path query) = task (compare file) query
-    task_called (job command query) = task command query
+    task_called (plan path metrics) = Some (task_for line changes detail (capacity file metrics) [])
+    task_called (beside path query) = Some (task_for line changes detail (compare file) query)
+    task_called (job command query) = Some (task_for line changes detail command query)
     task_called session = None
 
 -- a command with its query, without the path of a URL before it
