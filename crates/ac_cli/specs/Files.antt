@@ -1,5 +1,5 @@
 -- The files of the tables: which was opened for which; and the bytes of the file that is read beside them.
-use Rattle.std.specs.Prelude.{⊤, ⊥, List, ℕ, Option, Some, None}
+use Rattle.std.specs.Prelude.{⊤, List, ℕ, Option, Some, None}
 use Rattle.ac_base.specs.Devices.{Rises}
 use Rattle.ac_run.specs.Tasks.{Paths}
 use Rattle.ac_cli.specs.declared.files.FileUnread.{FileUnread}

@@ -1,5 +1,5 @@
 -- How the program ends, and what it leaves on its streams.
-use Rattle.std.specs.Prelude.{◌≡◌, ◌≢◌, ◌<◌, ◌≤◌, ◌⊎◌, ℕ, zero, List, [], ◌∷◌, ◌++◌, codes, length, nat_le, Option, Some, None, Contains, if◌then◌else◌, Bool, true, false}
+use Rattle.std.specs.Prelude.{◌≡◌, ◌≢◌, ◌<◌, ◌≤◌, ◌⊎◌, ℕ, zero, List, [], ◌∷◌, ◌++◌, codes, length, nat_le, Option, Some, None, Contains, if◌then◌else◌, true, false}
 use Rattle.std.specs.Io.KnownBytes.{Appends, Keeps, append_known}
 use Rattle.clap.specs.Words.{IsAmong, Kinds, Row, Text}
 use Rattle.clap.specs.declared.error.kind.ErrorKind.{ErrorKind}
