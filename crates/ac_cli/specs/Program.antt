@@ -1,5 +1,5 @@
 -- How the program ends, and what it leaves on its streams.
-use Rattle.std.specs.Prelude.{◌≡◌, ◌≢◌, ◌<◌, ◌≤◌, ◌⊎◌, ℕ, zero, List, [], ◌∷◌, ◌++◌, codes, length, nat_le, Option, Some, None, Contains, if◌then◌else◌, true, false}
+use Rattle.std.specs.Prelude.{◌≡◌, ◌≢◌, ◌<◌, ◌≤◌, ◌⊎◌, ℕ, zero, List, [], ◌∷◌, ◌++◌, codes, length, nat_le, Option, Some, None, Contains, if◌then◌else◌, Bool, true, false}
 use Rattle.std.specs.Io.KnownBytes.{Appends, Keeps, append_known}
 use Rattle.clap.specs.Words.{IsAmong, Kinds, Row, Text}
 use Rattle.clap.specs.declared.error.kind.ErrorKind.{ErrorKind}
@@ -110,10 +110,13 @@ abbrev pub note_of : Command → Option Paths → ℕ → List ℕ
 note_of check (Some paths) zero = note_for paths.usages
 note_of _ _ _ = []
 
+abbrev pub is_check : Command → Bool
+is_check check = true
+is_check _ = false
+
 -- what is told behind the answer to any other command: the note of its run, if that wrote an answer
 abbrev pub note_behind : Command → Option Paths → ℕ → List ℕ → List ℕ
-note_behind check detail given note = note_of check detail given
-note_behind _ detail given note = if nat_le given 1 then note else []
+note_behind command detail given note = if is_check command then note_of command detail given else (if nat_le given 1 then note else [])
 
 -- A task was run over feeds that were these before and after, and then a note was told. In between the error stream had failed no more often than in the end,
 -- and no less often than at first, so a line that is missing failed to be written. Over bytes the note of the run is theirs.

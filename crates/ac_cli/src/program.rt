@@ -14,6 +14,7 @@ ghost use Rattle.ac_words.specs.Words.{file_called, is_tabled, task_in};
 
 use crate::files::{Beside, FileUnread, Unopened, opened_inputs, read_file};
 use crate::host::{Host, Unworded};
+use crate::memory::MemFile;
 use crate::sample;
 use ac_base::{Feed, FromRead, Gathering, Sink, push_all};
 use ac_query::Version;
@@ -380,8 +381,8 @@ fn answer_headers<Q: Feed + Drop, W: Sink + Drop, E: Sink>(
     err: &mut E,
 ) -> (u8, W)
     requires { is_tabled words.now.call ≡ false }
-    ensures { RanHeaders ⟦<FromRead<&'static [u8]> as Feed>⟧.remaining
-        ⟦<FromRead<&'static [u8]> as Feed>⟧.failures Q.remaining Q.failures questions words.now
+    ensures { RanHeaders ⟦<MemFile<'static> as Feed>⟧.remaining
+        ⟦<MemFile<'static> as Feed>⟧.failures Q.remaining Q.failures questions words.now
         (seen W.taken W.failures E.taken E.failures out result.1 err.old err.new) result.0 }
 {
     let mut inputs = sample::headers();
@@ -397,7 +398,7 @@ fn answer_line<H: Host + AllocGlobal, Q: Feed + Drop, W: Sink + Drop, E: Sink>(
     err: &mut E,
 ) -> (u8, W)
     ensures { EndsLine (RanHeaders
-        ⟦<FromRead<&'static [u8]> as Feed>⟧.remaining ⟦<FromRead<&'static [u8]> as Feed>⟧.failures
+        ⟦<MemFile<'static> as Feed>⟧.remaining ⟦<MemFile<'static> as Feed>⟧.failures
         Q.remaining Q.failures questions words.now (seen W.taken W.failures E.taken E.failures out
         result.1 err.old err.new) result.0)
         (EndsForLine (H.opens host.now) (H.refuses host.now) H.File.remaining H.File.failures
@@ -421,7 +422,7 @@ fn answer_words<H: Host + AllocGlobal, Q: Feed + Drop, W: Sink + Drop, E: Sink>(
     err: &mut E,
 ) -> (u8, W)
     ensures { EndsForWords (λ line. EndsLine (RanHeaders
-        ⟦<FromRead<&'static [u8]> as Feed>⟧.remaining ⟦<FromRead<&'static [u8]> as Feed>⟧.failures
+        ⟦<MemFile<'static> as Feed>⟧.remaining ⟦<MemFile<'static> as Feed>⟧.failures
         Q.remaining Q.failures questions line (seen W.taken W.failures E.taken E.failures out
         result.1 err.old err.new) result.0)
         (EndsForLine (H.opens host.now) (H.refuses host.now) H.File.remaining H.File.failures
@@ -474,7 +475,7 @@ pub fn answer<H: Host + AllocGlobal, Q: Feed + Drop, W: Sink + Drop, E: Sink>(
         (RanSample ⟦<FromRead<&'static [u8]> as Feed>⟧.remaining
         ⟦<FromRead<&'static [u8]> as Feed>⟧.failures
         (seen W.taken W.failures E.taken E.failures out result.1 err.old err.new) result.0) (λ line. EndsLine (RanHeaders
-        ⟦<FromRead<&'static [u8]> as Feed>⟧.remaining ⟦<FromRead<&'static [u8]> as Feed>⟧.failures
+        ⟦<MemFile<'static> as Feed>⟧.remaining ⟦<MemFile<'static> as Feed>⟧.failures
         Q.remaining Q.failures questions line (seen W.taken W.failures E.taken E.failures out
         result.1 err.old err.new) result.0)
         (EndsForLine (H.opens host.now) (H.refuses host.now) H.File.remaining H.File.failures

@@ -4,6 +4,7 @@ ghost use Rattle.ac_run.specs.Feeds.{TellBytes};
 ghost use Rattle.ac_run.specs.Tasks.{task_of};
 ghost use Rattle.ac_cli.specs.Program.{header_bytes, sample_bytes, sample_task};
 
+use crate::memory::MemFile;
 use ac_base::{Feed, FromRead};
 use ac_query::Version;
 use ac_run::{Command, Inputs, Job};
@@ -56,12 +57,12 @@ pub fn inputs() -> Inputs<FromRead<&'static [u8]>>
 
 /// The headers of tables, and no rows.
 #[tactic(auto, unfolding(crate::specs::Program::header_bytes))]
-pub fn headers() -> Inputs<FromRead<&'static [u8]>>
-    ensures { TellBytes ⟦<FromRead<&'static [u8]> as Feed>⟧.remaining result header_bytes }
+pub fn headers() -> Inputs<MemFile<'static>>
+    ensures { TellBytes ⟦<MemFile<'static> as Feed>⟧.remaining result header_bytes }
 {
     Inputs {
-        providers: FromRead::new(PROVIDERS_HEADER.as_bytes()),
-        inventories: FromRead::new(INVENTORIES_HEADER.as_bytes()),
+        providers: MemFile::new(PROVIDERS_HEADER.as_bytes()),
+        inventories: MemFile::new(INVENTORIES_HEADER.as_bytes()),
         usages: None,
         traits: None,
         aggregates: None,
