@@ -1,5 +1,5 @@
 -- What the program leaves over words and files in memory, whose bytes are known.
-use Rattle.std.specs.Prelude.{◌≡◌, ◌≤◌, ⊤, ℕ, Bool, true, false, List, [], ◌++◌, length, map, find, Option, Some, None}
+use Rattle.std.specs.Prelude.{◌≡◌, ◌≤◌, ⊤, ℕ, Bool, true, false, List, [], ◌∷◌, ◌++◌, codes, length, map, find, Option, Some, None}
 use Rattle.std.specs.Option.{option_map}
 use Rattle.std.specs.Str.{bytes_eq}
 use denote.Ref.{Bor}
@@ -7,8 +7,9 @@ use Rattle.clap.specs.Words.{Text}
 use Rattle.ac_run.specs.Answer.{Outcome, answer}
 use Rattle.ac_run.specs.Feeds.{Bytes, is_long, is_long_there}
 use Rattle.ac_run.specs.Notes.{noted}
-use Rattle.ac_run.specs.Tasks.{Paths, Task}
-use Rattle.ac_words.specs.Words.{Line, Says, faults, file_called, is_tabled, named, task_in}
+use Rattle.ac_query.specs.declared.version.Version.TheVariants.{V136}
+use Rattle.ac_run.specs.Tasks.{Paths, Task, check}
+use Rattle.ac_words.specs.Words.{Line, Says, faults, file_called, is_tabled, named, paths_in, task_in}
 use Rattle.ac_cli.specs.Program.{detail_in, header_bytes, note_behind}
 use Rattle.ac_cli.specs.declared.memory.Left.{Left}
 use Rattle.ac_cli.specs.declared.memory.MemFile.{MemFile}
@@ -66,6 +67,17 @@ pub record AsksOver (words : List Text) (files : Files) (task : Task) (b : Bytes
   pub changes : Option (List ℕ)
   pub there : needs (is_tabled line.call) (HasFiles files line b file changes) b file changes
   pub asks : task_in line file changes (detail_in line) ≡ Some task
+
+-- words that ask for the sizes of the tables in a folder, and their task
+abbrev pub asks_sizes : List Text
+asks_sizes = codes "ac_cli" ∷ codes "check" ∷ codes "--tables" ∷ codes "cloud" ∷ []
+
+abbrev pub sizes_task : Task
+sizes_task = record { command = check; query = []; version = V136; tries = None; changes = None; detail = None }
+
+-- There are words that ask: these, where the tables of the folder are there.
+abbrev pub WordsAsk : Type 0
+WordsAsk = (files : Files) (b : Bytes) → HasTables files (paths_in (codes "cloud")) b → AsksOver asks_sizes files sizes_task b
 
 -- ---- what is left
 

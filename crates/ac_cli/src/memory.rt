@@ -4,7 +4,7 @@ ghost use Rattle.std.specs.Str.{bytes_eq};
 ghost use Rattle.ac_base.specs.Devices.{PullGives, PushTakes, breaks_after_pull, breaks_after_push, failures_after_pull, failures_after_push};
 ghost use Rattle.ac_run.specs.Feeds.{Bytes};
 ghost use Rattle.ac_run.specs.Tasks.{Task};
-ghost use Rattle.ac_cli.specs.InMemory.{AsksOver, IsLeft, bytes_at, file_bytes, files_shown, left_by, words_shown};
+ghost use Rattle.ac_cli.specs.InMemory.{AsksOver, IsLeft, WordsAsk, bytes_at, file_bytes, files_shown, left_by, words_shown};
 ghost use Rattle.ac_cli.specs.declared.host.Unworded.TheVariants as Unworded;
 
 use crate::host::{Host, Unworded};
@@ -195,3 +195,8 @@ pub fn answer_in_memory(
         status,
     })
 }
+
+/// There are words that ask for a task, where the files of its tables are there.
+pub fn words_ask()
+    ensures { WordsAsk }
+{}
