@@ -16,7 +16,7 @@ use crate::files::{Beside, FileUnread, Unopened, opened_inputs, read_file};
 use crate::host::{Host, Unworded};
 use crate::memory::MemFile;
 use crate::sample;
-use ac_base::{Feed, FromRead, Gathering, Sink, push_all};
+use ac_base::{Feed, Gathering, Sink, push_all};
 use ac_query::Version;
 use ac_remedies::unread_remedy;
 use ac_run::{
@@ -447,8 +447,8 @@ fn answer_words<H: Host + AllocGlobal, Q: Feed + Drop, W: Sink + Drop, E: Sink>(
 
 // Runs the job of the sample.
 fn answer_sample<W: Sink + Drop, E: Sink>(alloc: Global, out: W, err: &mut E) -> (u8, W)
-    ensures { RanSample ⟦<FromRead<&'static [u8]> as Feed>⟧.remaining
-        ⟦<FromRead<&'static [u8]> as Feed>⟧.failures
+    ensures { RanSample ⟦<MemFile<'static> as Feed>⟧.remaining
+        ⟦<MemFile<'static> as Feed>⟧.failures
         (seen W.taken W.failures E.taken E.failures out result.1 err.old err.new) result.0 }
 {
     let mut note = Vec::new(alloc);
@@ -472,8 +472,8 @@ pub fn answer<H: Host + AllocGlobal, Q: Feed + Drop, W: Sink + Drop, E: Sink>(
     err: &mut E,
 ) -> (u8, W)
     ensures { EndsProgram (H.gives host.now) (H.garbles host.now)
-        (RanSample ⟦<FromRead<&'static [u8]> as Feed>⟧.remaining
-        ⟦<FromRead<&'static [u8]> as Feed>⟧.failures
+        (RanSample ⟦<MemFile<'static> as Feed>⟧.remaining
+        ⟦<MemFile<'static> as Feed>⟧.failures
         (seen W.taken W.failures E.taken E.failures out result.1 err.old err.new) result.0) (λ line. EndsLine (RanHeaders
         ⟦<MemFile<'static> as Feed>⟧.remaining ⟦<MemFile<'static> as Feed>⟧.failures
         Q.remaining Q.failures questions line (seen W.taken W.failures E.taken E.failures out

@@ -5,7 +5,7 @@ ghost use Rattle.ac_run.specs.Tasks.{task_of};
 ghost use Rattle.ac_cli.specs.Program.{header_bytes, sample_bytes, sample_task};
 
 use crate::memory::MemFile;
-use ac_base::{Feed, FromRead};
+use ac_base::Feed;
 use ac_query::Version;
 use ac_run::{Command, Inputs, Job};
 
@@ -43,12 +43,12 @@ pub fn job() -> Job<'static>
 
 /// Its tables.
 #[tactic(auto, unfolding(crate::specs::Program::sample_bytes))]
-pub fn inputs() -> Inputs<FromRead<&'static [u8]>>
-    ensures { TellBytes ⟦<FromRead<&'static [u8]> as Feed>⟧.remaining result sample_bytes }
+pub fn inputs() -> Inputs<MemFile<'static>>
+    ensures { TellBytes ⟦<MemFile<'static> as Feed>⟧.remaining result sample_bytes }
 {
     Inputs {
-        providers: FromRead::new(PROVIDERS.as_bytes()),
-        inventories: FromRead::new(INVENTORIES.as_bytes()),
+        providers: MemFile::new(PROVIDERS.as_bytes()),
+        inventories: MemFile::new(INVENTORIES.as_bytes()),
         usages: None,
         traits: None,
         aggregates: None,
