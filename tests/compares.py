@@ -14,7 +14,7 @@ from model import difference_line, difference_lines, draw_cloud, draw_query, hea
 from notation import HEADERS, full
 
 BAD, STOPPED = 'answer: BadAnswer\n', 'search: TooManyTries\n'
-REMEDY = 'It is to be the body that the service answers GET /allocation_candidates with: JSON, with allocation_requests of 1.34 or later.\n'
+REMEDY = '  It is to be the body that the service answers GET /allocation_candidates with: JSON, with allocation_requests of 1.34 or later.\n'
 MOST_DEPTH = 127
 
 

@@ -22,6 +22,7 @@ sys.path += [os.path.join(os.path.dirname(HERE), 'tools'), *(os.path.join(HERE, 
 
 from audits import drawn_audits
 from cases import AUDIT_HEAD, CAPACITY_HEAD, CHILD, ODD_FLAVORS, ONE, PLANTED, SHARED, SMALL, SOME, TWO_FIT, TWO_SHORT, Case, cuts, full, lines, tables
+from changes import changes
 from cliffs import cliffs
 from compares import BOTH, MIXED, NO_REQUEST, compares
 from database import database_exports
@@ -35,6 +36,7 @@ from log_lines import FOUND, REFUSED
 from metrics import METRICS, read
 from model import difference_line, drawn, headings, words_of
 from notation import HEADERS, provider
+from queries import queries
 from release import NO_PROGRAM, UNBUILT, clone, releases, without_program
 from remedies import second_lines
 from sessions import sessions, untried
@@ -51,7 +53,7 @@ INVENTORIES = os.path.join(EXAMPLES, 'inventories.csv')
 CLOUD = os.path.join(EXAMPLES, 'cloud')
 NO_FILE = os.path.join(EXAMPLES, 'no_such_file.csv')
 ONE_HOST = '2b7d9e54-61c8-4f03-8a9d-c4e1b05f3a27\n'
-COMMANDS = 'check', 'candidates', 'tokens', 'list', 'fill', 'verify', 'explain', 'hosts', 'why', 'capacity', 'audit', 'compare', 'session'
+COMMANDS = 'check', 'candidates', 'tokens', 'list', 'fill', 'verify', 'explain', 'hosts', 'why', 'capacity', 'audit', 'compare', 'query', 'session'
 STATUSES = {'no: rule': 1, 'unknown provider': 1, 'query': 4, 'flavors:': 4, 'token': 5, 'host:': 5, 'answer:': 5, 'output': 6, 'out of memory': 7,
             **dict.fromkeys(('providers:', 'inventories:', 'usages:', 'traits:', 'aggregates:'), 3)}
 SHELLS = [shell for shell in ('bash', 'dash', 'zsh') if shutil.which(shell)]
@@ -684,7 +686,7 @@ def main(*given):
     chance = [*drawn(150), *drawn_audits(300), *drawn_tables(200), *drawn_queries(200)]
     linked = STATIC if os.path.isfile(os.path.join(ROOT, 'out', 'ac_cli.o')) and 'AC_CLI' not in os.environ else []
     cases = [PAGES, CRATES, DRAWING, *linked, *HELP, *WORDS, *FILES, *FOLDERS, *DRIVER, *REPORT, *DETAILS, *second_lines(), *PASTED, *DEVICES, *GROWTHS, *AS_METRICS, KNOWN, *REFUSALS, *SMALL, *pages, remade('examples/private/README.md'),
-             *rules, *examples(), *concerned(), *exports(), *database_exports(), *flavor_queries(), *sessions(PROGRAM), *compares(PROGRAM), *chance, *LARGE, *hostile(PROGRAM), *cliffs(PROGRAM), *tries(PROGRAM), FEW_BYTES, *cuts()]
+             *rules, *examples(), *concerned(), *exports(), *database_exports(), *flavor_queries(), *sessions(PROGRAM), *compares(PROGRAM), *queries(), *changes(), *chance, *LARGE, *hostile(PROGRAM), *cliffs(PROGRAM), *tries(PROGRAM), FEW_BYTES, *cuts()]
     cases = [case for case in cases if all(word in case.name for word in words)]
     failed = 0
     with ThreadPoolExecutor(max_workers=2) as pool:

@@ -91,10 +91,18 @@ class Count(NamedTuple):
 class Session:
     """A session over the tables of a folder. It ends with `close`, or with the `with` that it stands in."""
 
-    def __init__(self, tables: str, *options: str, program: Optional[str] = None):
-        """`options` are those of the command, such as '--tries', '1000000'."""
-        self._errors = tempfile.TemporaryFile('w+')
-        self._process = subprocess.Popen([program or os.environ.get('AC_CLI', 'ac_cli'), 'session', '--tables', tables, *options],
+    def __init__(self, tables: str, *options: str, program: Optional[str] = None, change: Sequence[str] = ()):
+        """`options` are those of the command, such as '--tries', '1000000'; `change` are the lines of its `--change`.
+
+        >>> with Session('examples/cloud', change=['remove compute-02']) as session:
+        ...     [host.name for host in session.hosts('resources=VCPU:2') if host.fits]
+        ['compute-01']
+        """
+        self._errors, self._changes = tempfile.TemporaryFile('w+'), tempfile.NamedTemporaryFile('w', encoding='utf-8')
+        self._changes.write(''.join(line + '\n' for line in change))
+        self._changes.flush()
+        changes = ['--change', self._changes.name] if change else []
+        self._process = subprocess.Popen([program or os.environ.get('AC_CLI', 'ac_cli'), 'session', '--tables', tables, *changes, *options],
                                          stdin=subprocess.PIPE, stdout=subprocess.PIPE, stderr=self._errors)
 
     def __enter__(self) -> Session:
@@ -112,6 +120,7 @@ class Session:
         self._process.stdout.close()
         status = self._process.wait()
         self._errors.close()
+        self._changes.close()
         return status
 
     # ---- Questions as they are

@@ -42,6 +42,12 @@ with Session(CLOUD, program=PROGRAM) as session:
     assert session.tokens('resources=VCPU:1', after=found[0]) == found[1:]
     assert len(session.candidates('resources=VCPU:1')['allocation_requests']) == len(found)
 
+# What is changed is changed before the first question; a fault ends the session.
+with Session(CLOUD, program=PROGRAM, change=['remove compute-02', 'set * VCPU max_unit 1']) as session:
+    assert session.tokens(VCPU) == [] and len(session.tokens('resources=VCPU:1')) == 2
+with Session(CLOUD, program=PROGRAM, change=['disable nobody']) as session:
+    assert str(refused_by(Ended, lambda: session.tokens(VCPU))) == 'change: line 1: UnknownHost'
+
 # Claims by name: each is placed, moved and given back by it; what fails changes nothing.
 ONE, OTHER, FULL = '6a90b2f4-c71d-4e05-a5c8-20f3e8d71b03', '3c5e81d7-02a9-4f6b-8e34-b19d6a7f0c02', 'b48d0f61-9e2c-4c7a-83d5-e6047b15ac05'
 SIX = 'resources=VCPU:6'

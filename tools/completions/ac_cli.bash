@@ -10,7 +10,7 @@ _ac_cli() {
         mapfile -t COMPREPLY < <(compgen -d -- "$word")
         return
         ;;
-    --providers | --inventories | --usages | --traits | --aggregates)
+    --providers | --inventories | --usages | --traits | --aggregates | --change)
         compopt -o filenames 2>/dev/null
         mapfile -t COMPREPLY < <(compgen -f -- "$word")
         return
@@ -24,23 +24,24 @@ _ac_cli() {
         ;;
     esac
     if [[ $COMP_CWORD == 1 ]]; then
-        offered='check candidates tokens list fill verify explain hosts why capacity compare audit session help --help --version'
+        offered='check candidates tokens list fill verify explain hosts why capacity compare audit query session help --help --version'
     else
         case ${COMP_WORDS[1]} in
-        check) offered='--tables --providers --inventories --usages --traits --aggregates --detail --help' ;;
-        candidates) offered='--tables --providers --inventories --usages --traits --aggregates --detail --microversion --tries --after --at --no-traits --help' ;;
-        tokens) offered='--tables --providers --inventories --usages --traits --aggregates --detail --microversion --tries --after --at --help' ;;
-        list) offered='--tables --providers --inventories --usages --traits --aggregates --detail --microversion --tries --after --at --no-traits --help' ;;
-        fill) offered='--tables --providers --inventories --usages --traits --aggregates --detail --microversion --tries --sum --help' ;;
-        verify) offered='--tables --providers --inventories --usages --traits --aggregates --detail --microversion --help' ;;
-        explain) offered='--tables --providers --inventories --usages --traits --aggregates --detail --microversion --tries --help' ;;
-        hosts) offered='--tables --providers --inventories --usages --traits --aggregates --detail --microversion --tries --in --sum --help' ;;
-        why) offered='--tables --providers --inventories --usages --traits --aggregates --detail --microversion --tries --help' ;;
-        capacity) offered='--tables --providers --inventories --usages --traits --aggregates --detail --microversion --tries --prometheus --help' ;;
-        compare) offered='--tables --providers --inventories --usages --traits --aggregates --detail --microversion --tries --help' ;;
-        audit) offered='--tables --providers --inventories --usages --traits --aggregates --detail --zone --help' ;;
-        session) offered='--tables --providers --inventories --usages --traits --aggregates --detail --microversion --tries --help' ;;
-        help) offered='check candidates tokens list fill verify explain hosts why capacity compare audit session help' ;;
+        check) offered='--tables --providers --inventories --usages --traits --aggregates --change --detail --help' ;;
+        candidates) offered='--tables --providers --inventories --usages --traits --aggregates --change --detail --microversion --tries --after --at --no-traits --help' ;;
+        tokens) offered='--tables --providers --inventories --usages --traits --aggregates --change --detail --microversion --tries --after --at --help' ;;
+        list) offered='--tables --providers --inventories --usages --traits --aggregates --change --detail --microversion --tries --after --at --no-traits --help' ;;
+        fill) offered='--tables --providers --inventories --usages --traits --aggregates --change --detail --microversion --tries --sum --help' ;;
+        verify) offered='--tables --providers --inventories --usages --traits --aggregates --change --detail --microversion --help' ;;
+        explain) offered='--tables --providers --inventories --usages --traits --aggregates --change --detail --microversion --tries --help' ;;
+        hosts) offered='--tables --providers --inventories --usages --traits --aggregates --change --detail --microversion --tries --in --sum --help' ;;
+        why) offered='--tables --providers --inventories --usages --traits --aggregates --change --detail --microversion --tries --help' ;;
+        capacity) offered='--tables --providers --inventories --usages --traits --aggregates --change --detail --microversion --tries --prometheus --help' ;;
+        compare) offered='--tables --providers --inventories --usages --traits --aggregates --change --detail --microversion --tries --help' ;;
+        audit) offered='--tables --providers --inventories --usages --traits --aggregates --change --detail --zone --help' ;;
+        query) offered='--detail --microversion --help' ;;
+        session) offered='--tables --providers --inventories --usages --traits --aggregates --change --detail --microversion --tries --help' ;;
+        help) offered='check candidates tokens list fill verify explain hosts why capacity compare audit query session help' ;;
         esac
     fi
     mapfile -t COMPREPLY < <(compgen -W "$offered" -- "$word")

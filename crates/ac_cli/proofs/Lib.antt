@@ -1,1 +1,2 @@
 pub mod RanTasks
+pub mod InMemory

@@ -1,5 +1,5 @@
 -- The files of the tables: which was opened for which; and the bytes of the file that is read beside them.
-use Rattle.std.specs.Prelude.{⊤, List, ℕ, Option, Some, None}
+use Rattle.std.specs.Prelude.{◌≡◌, ⊤, List, [], ℕ, Option, Some, None}
 use Rattle.ac_base.specs.Devices.{Rises}
 use Rattle.ac_run.specs.Tasks.{Paths}
 use Rattle.ac_cli.specs.declared.files.FileUnread.{FileUnread}
@@ -28,10 +28,16 @@ pub record Holds {R : Type 0} (opens : List ℕ → R → Type 0) (remaining : R
   pub opened : opens path file
   pub all : AllBytes (remaining file) bytes
 
--- where a path is given for it
+-- where a path is given for it; else there are none
 abbrev pub HoldsFile : {R : Type 0} → (List ℕ → R → Type 0) → (R → Option (List ℕ)) → Option (List ℕ) → List ℕ → Type 0
-HoldsFile opens remaining None bytes = ⊤
+HoldsFile opens remaining None bytes = bytes ≡ []
 HoldsFile opens remaining (Some path) bytes = Holds opens remaining path bytes
+
+-- the same of changes, which may not be there
+abbrev pub HoldsChanges : {R : Type 0} → (List ℕ → R → Type 0) → (R → Option (List ℕ)) → Option (List ℕ) → Option (List ℕ) → Type 0
+HoldsChanges opens remaining None None = ⊤
+HoldsChanges opens remaining (Some path) (Some bytes) = Holds opens remaining path bytes
+HoldsChanges opens remaining _ _ = ⊥
 
 -- why its bytes can't be had: its path was refused, or what was opened there failed, or had too many; or memory gave out
 abbrev pub ExplainsUnread : {R : Type 0} → (List ℕ → R → Type 0) → (List ℕ → List ℕ → Type 0) → (R → Option (List ℕ)) → (R → ℕ) → List ℕ → FileUnread → Type 0

@@ -1,2 +1,3 @@
 pub mod Files
+pub mod InMemory
 pub mod Program

@@ -11,6 +11,7 @@ use Rattle.ac_query.specs.declared.version.Version.{Version}
 use Rattle.ac_query.specs.declared.version.Version.TheVariants.{V136}
 use Rattle.ac_remedies.specs.Tables.{unread_remedy}
 use Rattle.ac_run.specs.Answer.{Outcome, answer}
+use Rattle.ac_run.specs.Changing.{changes_large_line, changes_unread_line, world_in}
 use Rattle.ac_run.specs.Feeds.{Bytes, FeedRose, TellBytes}
 use Rattle.ac_run.specs.Flavors.{large_line, unread_line}
 use Rattle.ac_run.specs.Lines.{answer_line, memory_line, output_line, tries_line, unreadable_line}
@@ -21,17 +22,17 @@ use Rattle.ac_base.specs.Writing.{TakesLine}
 use Rattle.ac_run.specs.Stops.{TaskMayStop}
 use Rattle.ac_run.specs.Tasks.{Command, Paths, Task, check, tokens}
 use Rattle.ac_session.specs.Lines.{most_passed}
-use Rattle.ac_run.specs.Wanted.Given.{tables_in}
 use Rattle.ac_session.specs.Held.{unnamed}
 use Rattle.ac_session.specs.Sessions.{AreUnread, session_answer, session_answer_with}
 use Rattle.ac_session.specs.Tries.{AreStops}
 use Rattle.ac_session.specs.Turns.{lines_in}
-use Rattle.ac_tables.specs.Tables.{world_stated}
 use Rattle.ac_tables.specs.declared.read.FiveTables.{FiveTables}
-use Rattle.ac_cli.specs.Files.{AreOpened, ExplainsUnread, HoldsFile}
+use Rattle.ac_cli.specs.Files.{AreOpened, ExplainsUnread, HoldsChanges, HoldsFile}
+use Rattle.ac_cli.specs.declared.files.Beside.{Beside}
+use Rattle.ac_cli.specs.declared.files.Beside.TheVariants as beside
 use Rattle.ac_cli.specs.declared.files.FileUnread.{FileUnread}
 use Rattle.ac_cli.specs.declared.files.FileUnread.TheVariants as unread
-use Rattle.ac_words.specs.Words.{Line, Says, calls_answer, faults, file_called, named, task_in}
+use Rattle.ac_words.specs.Words.{Call, Line, Says, calls_answer, faults, file_called, is_tabled, named, task_in}
 use Rattle.ac_words.specs.declared.name.Name.{Name}
 use Rattle.ac_tables.specs.FiveTables.{table_in}
 
@@ -109,10 +110,13 @@ abbrev pub note_of : Command → Option Paths → ℕ → List ℕ
 note_of check (Some paths) zero = note_for paths.usages
 note_of _ _ _ = []
 
+abbrev pub is_check : Command → Bool
+is_check check = true
+is_check _ = false
+
 -- what is told behind the answer to any other command: the note of its run, if that wrote an answer
 abbrev pub note_behind : Command → Option Paths → ℕ → List ℕ → List ℕ
-note_behind check detail given note = note_of check detail given
-note_behind _ detail given note = if nat_le given 1 then note else []
+note_behind command detail given note = if is_check command then note_of command detail given else (if nat_le given 1 then note else [])
 
 -- A task was run over feeds that were these before and after, and then a note was told. In between the error stream had failed no more often than in the end,
 -- and no less often than at first, so a line that is missing failed to be written. Over bytes the note of the run is theirs.
@@ -152,17 +156,17 @@ pub record RanSession {R Q : Type 0} (remaining : R → Option (List ℕ)) (trie
   pub status : Contains (0 ∷ 3 ∷ 6 ∷ 7 ∷ []) given
   pub failures : s.err_before ≤ s.err_after
 
--- the searches of a session may stop so, over the bytes of five tables
-abbrev pub SessionMayStop : Option ℕ → Version → Bytes → Stops → List ℕ → Type 0
-SessionMayStop tries version b stops q = AreStops tries version (unnamed (world_stated (tables_in b))) stops (lines_in q)
+-- the searches of a session may stop so, over the bytes of five tables, as changes leave them
+abbrev pub SessionMayStop : Option ℕ → Option (List ℕ) → Version → Bytes → Stops → List ℕ → Type 0
+SessionMayStop tries changes version b stops q = AreStops tries version (unnamed (world_in changes b)) stops (lines_in q)
 
--- a session was held over feeds of tables that were these before and after, with these questions
+-- a session was held over feeds of tables that were these before and after, with these changes and these questions
 abbrev pub HeldSession : {R Q : Type 0} → (R → Option (List ℕ)) → (R → ℕ) → (Q → Option (List ℕ)) → (Q → ℕ)
-    → Option Paths → Version → Option ℕ → FiveTables R → FiveTables R → Q → Streams → ℕ → Type 0
-HeldSession {R} {Q} remaining failures asked fails detail version tries from to questions s given =
+    → Option Paths → Option (List ℕ) → Version → Option ℕ → FiveTables R → FiveTables R → Q → Streams → ℕ → Type 0
+HeldSession {R} {Q} remaining failures asked fails detail changes version tries from to questions s given =
     (last : Q)
-    × RanSession remaining tries (session_answer detail version) (SessionMayStop tries version) (session_answer_with detail version) (Unread failures detail from to s)
-    asked fails from questions last s given
+    × RanSession remaining tries (session_answer detail changes version) (SessionMayStop tries changes version) (session_answer_with detail changes version)
+    (Unread failures detail from to s) asked fails from questions last s given
 
 -- ---- words that were accepted
 
@@ -172,10 +176,10 @@ detail_in line = if line.detail then Some line.paths else None
 
 -- what a line calls for was done over feeds of tables that were these before and after: a task was run, or a session was held
 abbrev pub RanCall : {R Q : Type 0} → (R → Option (List ℕ)) → (R → ℕ) → (Q → Option (List ℕ)) → (Q → ℕ)
-    → Option Task → Line → FiveTables R → FiveTables R → Q → Streams → ℕ → Type 0
-RanCall remaining failures asked fails (Some task) line from to questions s given = RanJob remaining failures task from to s given
-RanCall remaining failures asked fails None line from to questions s given =
-    HeldSession remaining failures asked fails (detail_in line) line.version line.tries from to questions s given
+    → Option Task → Line → Option (List ℕ) → FiveTables R → FiveTables R → Q → Streams → ℕ → Type 0
+RanCall remaining failures asked fails (Some task) line changes from to questions s given = RanJob remaining failures task from to s given
+RanCall remaining failures asked fails None line changes from to questions s given =
+    HeldSession remaining failures asked fails (detail_in line) changes line.version line.tries from to questions s given
 
 -- a refused path is told; where more is told, with the reason that was given for it, or else want of memory for that
 abbrev pub IsToldUnopened : Option Paths → Table → Text → Text → (List ℕ → Type 0) → ℕ → Type 0
@@ -193,41 +197,74 @@ pub record IsUnopened (refuses : List ℕ → List ℕ → Type 0) (line : Line)
   pub told : IsToldUnopened (detail_in line) table path reason (IsLine s) given
   pub output : s.out_new ≡ s.out_old
 
--- the line of a file that can't be read, of one with too many bytes, and their status: of an answer of the service, or of a table of flavors
-abbrev pub unread_said : Bool → List ℕ
-unread_said true = answer_line answer.Unreadable
-unread_said false = unread_line
+-- the line of a file that can't be read, of one with too many bytes, and their status
+abbrev pub unread_said : Beside → List ℕ
+unread_said beside.Answer = answer_line answer.Unreadable
+unread_said beside.Flavors = unread_line
+unread_said beside.Changes = changes_unread_line
 
-abbrev pub large_said : Bool → List ℕ
-large_said true = answer_line answer.TooLarge
-large_said false = large_line
+abbrev pub large_said : Beside → List ℕ
+large_said beside.Answer = answer_line answer.TooLarge
+large_said beside.Flavors = large_line
+large_said beside.Changes = changes_large_line
 
-abbrev pub file_status : Bool → ℕ
-file_status true = 5
-file_status false = 4
+abbrev pub file_status : Beside → ℕ
+file_status beside.Answer = 5
+file_status beside.Flavors = 4
+file_status beside.Changes = 3
 
 -- what is told of a file that can't be read; where more is told, with the reason, if one was given
-abbrev pub unread_told : Bool → Option Paths → Text → Option Text → List ℕ
+abbrev pub unread_told : Beside → Option Paths → Text → Option Text → List ℕ
 unread_told of None path reason = unread_said of
 unread_told of (Some paths) path reason = unread_said of ++ unread_remedy path reason
 
 -- it is told that the bytes of a file can't be had, or else want of memory for that
-abbrev pub IsToldUnread : Bool → Option Paths → Text → FileUnread → (List ℕ → Type 0) → ℕ → Type 0
+abbrev pub IsToldUnread : Beside → Option Paths → Text → FileUnread → (List ℕ → Type 0) → ℕ → Type 0
 IsToldUnread of detail path (unread.Unopened reason) Told given =
     (Told (unread_told of detail path (Some reason.now)) × (given ≡ file_status of)) ⊎ (Told memory_line × (given ≡ 7))
 IsToldUnread of detail path unread.Failed Told given = (Told (unread_told of detail path None) × (given ≡ file_status of)) ⊎ (Told memory_line × (given ≡ 7))
 IsToldUnread of detail path unread.TooLarge Told given = Told (large_said of) × (given ≡ file_status of)
 IsToldUnread of detail path unread.NoMemory Told given = Told memory_line × (given ≡ 7)
 
--- The bytes of the file that is read beside the tables can't be had, which is told.
+-- which file a call asks for beside the tables, where it asks for one
+abbrev pub beside_called : Call → Beside
+beside_called call = if calls_answer call then beside.Answer else beside.Flavors
+
+-- the path of a file that is read beside the tables, where a line gives one
+abbrev pub path_beside : Line → Beside → Option Text
+path_beside line beside.Changes = line.changes
+path_beside line _ = file_called line.call
+
+-- The bytes of a file that is read beside the tables can't be had, which is told.
 pub record LacksFile {R : Type 0} (opens : List ℕ → R → Type 0) (refuses : List ℕ → List ℕ → Type 0) (remaining : R → Option (List ℕ)) (failures : R → ℕ)
     (line : Line) (s : Streams) (given : ℕ) : Type 0 where
+  pub of : Beside
+  pub one : Contains (beside.Changes ∷ beside_called line.call ∷ []) of
   pub path : Text
-  pub named : file_called line.call ≡ Some path
+  pub named : path_beside line of ≡ Some path
   pub why : FileUnread
   pub because : ExplainsUnread opens refuses remaining failures path why
-  pub told : IsToldUnread (calls_answer line.call) (detail_in line) path why (IsLine s) given
+  pub told : IsToldUnread of (detail_in line) path why (IsLine s) given
   pub output : s.out_new ≡ s.out_old
+
+-- the tables of what is about none: their headers alone
+unfoldable pub header_bytes : Bytes
+header_bytes = record {
+  providers = codes "uuid,root_provider_uuid,parent_provider_uuid\n";
+  inventories = codes "resource_provider,resource_class,total,reserved,min_unit,max_unit,step_size,allocation_ratio\n";
+  usages = None;
+  traits = None;
+  aggregates = None;
+}
+
+-- What a line calls for is about no tables, and was done over their headers.
+pub record RanHeaders {R Q : Type 0} (remaining : R → Option (List ℕ)) (failures : R → ℕ) (asked : Q → Option (List ℕ)) (fails : Q → ℕ)
+    (questions : Q) (line : Line) (s : Streams) (given : ℕ) : Type 0 where
+  pub untabled : is_tabled line.call ≡ false
+  pub from : FiveTables R
+  pub to : FiveTables R
+  pub tells : TellBytes remaining from header_bytes
+  pub ran : RanCall remaining failures asked fails (task_in line [] None (detail_in line)) line None from to questions s given
 
 -- What a line calls for was done over what was opened at its paths.
 pub record RanOpened {R Q : Type 0} (opens : List ℕ → R → Type 0) (remaining : R → Option (List ℕ)) (failures : R → ℕ)
@@ -237,13 +274,19 @@ pub record RanOpened {R Q : Type 0} (opens : List ℕ → R → Type 0) (remaini
   pub files : AreOpened opens line.paths from
   pub file : List ℕ
   pub held : HoldsFile opens remaining (file_called line.call) file
-  pub ran : RanCall remaining failures asked fails (task_in line file (detail_in line)) line from to questions s status
+  pub changes : Option (List ℕ)
+  pub changed : HoldsChanges opens remaining line.changes changes
+  pub ran : RanCall remaining failures asked fails (task_in line file changes (detail_in line)) line changes from to questions s status
 
 abbrev pub EndsForLine : {R Q : Type 0} → (List ℕ → R → Type 0) → (List ℕ → List ℕ → Type 0) → (R → Option (List ℕ)) → (R → ℕ) → (Q → Option (List ℕ)) → (Q → ℕ)
     → Q → Line → Streams → ℕ → Type 0
 EndsForLine opens refuses remaining failures asked fails questions line s given =
     IsUnopened refuses line s given
     ⊎ (LacksFile opens refuses remaining failures line s given ⊎ RanOpened opens remaining failures asked fails questions line s given)
+
+-- how a line ends: over the headers of the tables, if what it calls for is about none; else over what is opened
+abbrev pub EndsLine : Type 0 → Type 0 → Line → Type 0
+EndsLine Headers Opened line = Headers ⊎ ((is_tabled line.call ≡ true) × Opened)
 
 -- ---- all words
 
@@ -283,7 +326,7 @@ EndsForWords Ends words s given =
 
 -- the task and the tables of a call without words
 abbrev pub sample_task : Task
-sample_task = record { command = tokens None None; query = codes "resources=VCPU:2"; version = V136; tries = None; detail = None }
+sample_task = record { command = tokens None None; query = codes "resources=VCPU:2"; version = V136; tries = None; changes = None; detail = None }
 
 unfoldable pub sample_bytes : Bytes
 sample_bytes = record {

@@ -1,4 +1,4 @@
-//! The files of the tables, and the one that is read beside them.
+//! The files of the tables, and those that are read beside them.
 ghost use Rattle.std.specs.Prelude.{◌≡◌, IfErr, IfOk, Some, option_map};
 ghost use Rattle.ac_cli.specs.Files.{AreOpened, ExplainsUnread, Holds, IsOpened};
 ghost use Rattle.ac_run.specs.Tasks.{paths_shown};
@@ -68,6 +68,17 @@ pub fn opened_inputs<'a, H: Host>(
         traits: opened_if_given(host, Table::Traits, paths.traits)?,
         aggregates: opened_if_given(host, Table::Aggregates, paths.aggregates)?,
     })
+}
+
+/// A file that is read beside the tables.
+#[derive(Clone, Copy, Debug, PartialEq, Eq)]
+pub enum Beside {
+    /// An answer of the service.
+    Answer,
+    /// A table of flavors.
+    Flavors,
+    /// What is changed of the cloud.
+    Changes,
 }
 
 /// Why the bytes of a file can't be had.

@@ -3,6 +3,7 @@
 
 mod files;
 mod host;
+pub mod memory;
 mod program;
 mod sample;
 

@@ -1,26 +1,27 @@
 //! The program around a run: its words, its files and its streams.
-ghost use Rattle.std.specs.Prelude.{◌≡◌, ◌≤◌, ◌⊎◌, IfErr, IfOk, Some, map, option_map, string_bytes};
+ghost use Rattle.std.specs.Prelude.{◌≡◌, ◌≤◌, ◌⊎◌, IfErr, IfOk, Some, false, map, option_map, string_bytes};
 ghost use Rattle.std.specs.Io.KnownBytes.{Appends};
 ghost use Rattle.ac_base.specs.Devices.{Rises, TakesPart};
 ghost use Rattle.ac_base.specs.Writing.{TakesLine};
 ghost use Rattle.ac_run.specs.Feeds.{Bytes, TellBytes};
 ghost use Rattle.ac_run.specs.Lines.{memory_line};
 ghost use Rattle.ac_run.specs.Notes.{noted};
-ghost use Rattle.ac_run.specs.Tasks.{command_shown, detail_shown, paths_shown, task_of};
-ghost use Rattle.ac_cli.specs.Program.{EndsForLine, EndsForWords, EndsProgram, HeldSession, IsShown, IsToldUnopened, IsToldUnread, RanCall, RanJob, RanSample, RanTask, detail_in, file_status, large_said, note_behind, seen, unread_said, unread_told};
+ghost use Rattle.ac_run.specs.Tasks.{changes_shown, command_shown, detail_shown, paths_shown, task_of};
+ghost use Rattle.ac_cli.specs.Program.{beside_called, EndsForLine, EndsForWords, EndsLine, EndsProgram, HeldSession, IsShown, IsToldUnopened, IsToldUnread, RanCall, RanHeaders, RanJob, RanSample, RanTask, detail_in, file_status, large_said, note_behind, seen, unread_said, unread_told};
 ghost use Rattle.ac_run.specs.Refusals.{line_of, status_of};
-ghost use Rattle.ac_cli.specs.Files.{ExplainsUnread, HoldsFile};
-ghost use Rattle.ac_words.specs.Words.{file_called, task_in};
+ghost use Rattle.ac_cli.specs.Files.{ExplainsUnread, HoldsChanges, HoldsFile};
+ghost use Rattle.ac_words.specs.Words.{file_called, is_tabled, task_in};
 
-use crate::files::{FileUnread, Unopened, opened_inputs, read_file};
+use crate::files::{Beside, FileUnread, Unopened, opened_inputs, read_file};
 use crate::host::{Host, Unworded};
+use crate::memory::MemFile;
 use crate::sample;
-use ac_base::{Feed, FromRead, Gathering, Sink, push_all};
+use ac_base::{Feed, Gathering, Sink, push_all};
 use ac_query::Version;
 use ac_remedies::unread_remedy;
 use ac_run::{
-    AnswerRefusal, AskRefusal, Command, FlavorsRefusal, Inputs, Job, Paths, Refusal, Refused,
-    TablesRefusal, run, tell,
+    AnswerRefusal, AskRefusal, ChangesRefusal, Command, FlavorsRefusal, Inputs, Job, Paths,
+    Refusal, Refused, TablesRefusal, run, tell,
 };
 use ac_session::{Lines, run_session};
 use ac_words::{WordFault, Words, read_words};
@@ -111,17 +112,20 @@ fn held<F: Feed, Q: Feed + Drop, W: Sink + Drop, E: Sink>(
     version: Version,
     tries: Option<u64>,
     detail: Option<&Paths<'_>>,
+    changes: Option<&[u8]>,
     inputs: &mut Inputs<F>,
     questions: Q,
     out: W,
     err: &mut E,
 ) -> (u8, W)
     ensures { HeldSession F.remaining F.failures Q.remaining Q.failures (detail_shown detail.entry)
-        version tries inputs.old inputs.new questions
+        (changes_shown changes.entry) version tries inputs.old inputs.new questions
         (seen W.taken W.failures E.taken E.failures out result.1 err.old err.new) result.0 }
 {
     match Lines::new(alloc, questions) {
-        Ok(mut lines) => run_session(alloc, version, tries, detail, inputs, &mut lines, out, err),
+        Ok(mut lines) => run_session(
+            alloc, version, tries, detail, changes, inputs, &mut lines, out, err,
+        ),
         Err(_) => (tell(err, &Refused::of(alloc, Refusal::NoMemory)), out),
     }
 }
@@ -156,46 +160,46 @@ fn tell_unopened<E: Sink>(
     tell(err, &Refused::new(alloc, refusal, remedy))
 }
 
-// Why a file can't be read: an answer of the service, or a table of flavors.
-fn unreadable(answer: bool) -> Refusal
-    ensures line { line_of result ≡ unread_said answer }
-    ensures status { status_of result ≡ file_status answer }
+// Why a file can't be read.
+fn unreadable(of: Beside) -> Refusal
+    ensures line { line_of result ≡ unread_said of }
+    ensures status { status_of result ≡ file_status of }
 {
-    if answer {
-        Refusal::Asked(AskRefusal::Answer(AnswerRefusal::Unreadable))
-    } else {
-        Refusal::Asked(AskRefusal::Flavors(FlavorsRefusal::Unreadable))
+    match of {
+        Beside::Answer => Refusal::Asked(AskRefusal::Answer(AnswerRefusal::Unreadable)),
+        Beside::Flavors => Refusal::Asked(AskRefusal::Flavors(FlavorsRefusal::Unreadable)),
+        Beside::Changes => Refusal::Tables(TablesRefusal::Changes(ChangesRefusal::Unreadable)),
     }
 }
 
 // It has too many bytes.
-fn too_large(answer: bool) -> Refusal
-    ensures line { line_of result ≡ large_said answer }
-    ensures status { status_of result ≡ file_status answer }
+fn too_large(of: Beside) -> Refusal
+    ensures line { line_of result ≡ large_said of }
+    ensures status { status_of result ≡ file_status of }
 {
-    if answer {
-        Refusal::Asked(AskRefusal::Answer(AnswerRefusal::TooLarge))
-    } else {
-        Refusal::Asked(AskRefusal::Flavors(FlavorsRefusal::TooLarge))
+    match of {
+        Beside::Answer => Refusal::Asked(AskRefusal::Answer(AnswerRefusal::TooLarge)),
+        Beside::Flavors => Refusal::Asked(AskRefusal::Flavors(FlavorsRefusal::TooLarge)),
+        Beside::Changes => Refusal::Tables(TablesRefusal::Changes(ChangesRefusal::TooLarge)),
     }
 }
 
 // Tells that the bytes of a file can't be read, for a reason, where one is known: its status.
 fn tell_unreadable<E: Sink>(
     alloc: Global,
-    answer: bool,
+    of: Beside,
     detail: Option<&Paths<'_>>,
     path: &str,
     reason: Option<&'static str>,
     err: &mut E,
 ) -> u8
     ensures { (TakesLine (E.taken err.old) (E.taken err.new) (E.failures err.old)
-        (E.failures err.new) (unread_told answer (detail_shown detail.entry) path.now
-        (option_map (λ r. r.now) reason.entry)) × (result ≡ file_status answer))
+        (E.failures err.new) (unread_told of (detail_shown detail.entry) path.now
+        (option_map (λ r. r.now) reason.entry)) × (result ≡ file_status of))
         ⊎ (TakesLine (E.taken err.old) (E.taken err.new) (E.failures err.old)
         (E.failures err.new) memory_line × (result ≡ 7)) }
 {
-    let refusal = unreadable(answer);
+    let refusal = unreadable(of);
     if detail.is_none() {
         return tell(err, &Refused::of(alloc, refusal));
     }
@@ -206,21 +210,21 @@ fn tell_unreadable<E: Sink>(
 // Tells why the bytes of a file can't be had: its status.
 fn tell_unread<E: Sink>(
     alloc: Global,
-    answer: bool,
+    of: Beside,
     detail: Option<&Paths<'_>>,
     path: &str,
     unread: FileUnread,
     err: &mut E,
 ) -> u8
-    ensures { IsToldUnread answer (detail_shown detail.entry) path.now unread (λ line. TakesLine
+    ensures { IsToldUnread of (detail_shown detail.entry) path.now unread (λ line. TakesLine
         (E.taken err.old) (E.taken err.new) (E.failures err.old) (E.failures err.new) line) result }
 {
     let refusal = match unread {
         FileUnread::Unopened(reason) => {
-            return tell_unreadable(alloc, answer, detail, path, Some(reason), err);
+            return tell_unreadable(alloc, of, detail, path, Some(reason), err);
         }
-        FileUnread::Failed => return tell_unreadable(alloc, answer, detail, path, None, err),
-        FileUnread::TooLarge => too_large(answer),
+        FileUnread::Failed => return tell_unreadable(alloc, of, detail, path, None, err),
+        FileUnread::TooLarge => too_large(of),
         FileUnread::NoMemory => Refusal::NoMemory,
     };
     tell(err, &Refused::of(alloc, refusal))
@@ -244,6 +248,38 @@ fn file_of<'a, H: Host>(
     }
 }
 
+// The bytes of the changes, where the words name a file of them; else its path, and why they can't be had.
+fn changes_of<'a, H: Host>(
+    alloc: Global,
+    host: &H,
+    words: &'a Words,
+) -> Result<Option<Vec<u8>>, (&'a str, FileUnread)>
+    ensures held { IfOk result (λ bytes. HoldsChanges (H.opens host.now) H.File.remaining
+        words.now.changes (option_map (λ v. v.items) bytes)) }
+    ensures fault { IfErr result (λ lack. (words.now.changes ≡ Some lack.0.now)
+        × ExplainsUnread (H.opens host.now) (H.refuses host.now) H.File.remaining H.File.failures
+        lack.0.now lack.1) }
+{
+    let Some(path) = words.changes() else {
+        return Ok(None);
+    };
+    match read_file(alloc, host, path) {
+        Ok(bytes) => Ok(Some(bytes)),
+        Err(unread) => Err((path, unread)),
+    }
+}
+
+// Which file the words ask for beside the tables, where they ask for one.
+fn beside_of(words: &Words) -> Beside
+    ensures { result ≡ beside_called words.now.call }
+{
+    if words.has_answer() {
+        Beside::Answer
+    } else {
+        Beside::Flavors
+    }
+}
+
 // The paths of the words, where more is to be told.
 fn detail_of<'a>(words: &Words, paths: &'a Paths<'a>) -> Option<&'a Paths<'a>>
     requires { paths_shown paths.now ≡ words.now.paths }
@@ -252,30 +288,32 @@ fn detail_of<'a>(words: &Words, paths: &'a Paths<'a>) -> Option<&'a Paths<'a>>
     if words.detail() { Some(paths) } else { None }
 }
 
-// Does what accepted words ask for, over the feeds of their tables and the bytes of the file that is read beside them.
+// Does what accepted words ask for, over the feeds of their tables, the bytes of the file that is read beside them, and the changes.
 fn answer_opened<F: Feed, Q: Feed + Drop, W: Sink + Drop, E: Sink>(
     alloc: Global,
     words: &Words,
     file: &[u8],
+    changes: Option<&[u8]>,
     inputs: &mut Inputs<F>,
     questions: Q,
     out: W,
     err: &mut E,
 ) -> (u8, W)
     ensures { RanCall F.remaining F.failures Q.remaining Q.failures
-        (task_in words.now file.now (detail_in words.now)) words.now inputs.old inputs.new
-        questions (seen W.taken W.failures E.taken E.failures out result.1 err.old err.new)
-        result.0 }
+        (task_in words.now file.now (changes_shown changes.entry) (detail_in words.now)) words.now
+        (changes_shown changes.entry) inputs.old inputs.new questions
+        (seen W.taken W.failures E.taken E.failures out result.1 err.old err.new) result.0 }
 {
     let paths = words.paths();
     let detail = detail_of(words, &paths);
-    match words.job(file, detail) {
+    match words.job(file, changes, detail) {
         Some(job) => ran_job(alloc, &job, inputs, out, err),
         None => held(
             alloc,
             words.version(),
             words.tries(),
             detail,
+            changes,
             inputs,
             questions,
             out,
@@ -284,8 +322,8 @@ fn answer_opened<F: Feed, Q: Feed + Drop, W: Sink + Drop, E: Sink>(
     }
 }
 
-// Does what accepted words ask for.
-fn answer_line<H: Host + AllocGlobal, Q: Feed + Drop, W: Sink + Drop, E: Sink>(
+// Does what accepted words ask for, over the files that they name.
+fn answer_tabled<H: Host + AllocGlobal, Q: Feed + Drop, W: Sink + Drop, E: Sink>(
     host: &H,
     words: &Words,
     questions: Q,
@@ -304,14 +342,75 @@ fn answer_line<H: Host + AllocGlobal, Q: Feed + Drop, W: Sink + Drop, E: Sink>(
         Ok(inputs) => inputs,
         Err(unopened) => return (tell_unopened(alloc, detail, &unopened, err), out),
     };
+    let changes = match changes_of(alloc, host, words) {
+        Ok(changes) => changes,
+        Err((path, unread)) => {
+            return (
+                tell_unread(alloc, Beside::Changes, detail, path, unread, err),
+                out,
+            );
+        }
+    };
     let file = match file_of(alloc, host, words) {
         Ok(file) => file,
         Err((path, unread)) => {
-            let answer = words.has_answer();
-            return (tell_unread(alloc, answer, detail, path, unread, err), out);
+            return (
+                tell_unread(alloc, beside_of(words), detail, path, unread, err),
+                out,
+            );
         }
     };
-    answer_opened(alloc, words, &file, &mut inputs, questions, out, err)
+    answer_opened(
+        alloc,
+        words,
+        &file,
+        changes.as_deref(),
+        &mut inputs,
+        questions,
+        out,
+        err,
+    )
+}
+
+// Does what accepted words ask for that is about no tables: over their headers.
+fn answer_headers<Q: Feed + Drop, W: Sink + Drop, E: Sink>(
+    alloc: Global,
+    words: &Words,
+    questions: Q,
+    out: W,
+    err: &mut E,
+) -> (u8, W)
+    requires { is_tabled words.now.call ≡ false }
+    ensures { RanHeaders ⟦<MemFile<'static> as Feed>⟧.remaining
+        ⟦<MemFile<'static> as Feed>⟧.failures Q.remaining Q.failures questions words.now
+        (seen W.taken W.failures E.taken E.failures out result.1 err.old err.new) result.0 }
+{
+    let mut inputs = sample::headers();
+    answer_opened(alloc, words, &[], None, &mut inputs, questions, out, err)
+}
+
+// Does what accepted words ask for.
+fn answer_line<H: Host + AllocGlobal, Q: Feed + Drop, W: Sink + Drop, E: Sink>(
+    host: &H,
+    words: &Words,
+    questions: Q,
+    out: W,
+    err: &mut E,
+) -> (u8, W)
+    ensures { EndsLine (RanHeaders
+        ⟦<MemFile<'static> as Feed>⟧.remaining ⟦<MemFile<'static> as Feed>⟧.failures
+        Q.remaining Q.failures questions words.now (seen W.taken W.failures E.taken E.failures out
+        result.1 err.old err.new) result.0)
+        (EndsForLine (H.opens host.now) (H.refuses host.now) H.File.remaining H.File.failures
+        Q.remaining Q.failures questions words.now
+        (seen W.taken W.failures E.taken E.failures out result.1 err.old err.new) result.0)
+        words.now }
+{
+    if words.is_tabled() {
+        answer_tabled(host, words, questions, out, err)
+    } else {
+        answer_headers(host.alloc(), words, questions, out, err)
+    }
 }
 
 // Does what words ask for.
@@ -322,10 +421,14 @@ fn answer_words<H: Host + AllocGlobal, Q: Feed + Drop, W: Sink + Drop, E: Sink>(
     out: W,
     err: &mut E,
 ) -> (u8, W)
-    ensures { EndsForWords (λ line.
-        EndsForLine (H.opens host.now) (H.refuses host.now) H.File.remaining H.File.failures
+    ensures { EndsForWords (λ line. EndsLine (RanHeaders
+        ⟦<MemFile<'static> as Feed>⟧.remaining ⟦<MemFile<'static> as Feed>⟧.failures
+        Q.remaining Q.failures questions line (seen W.taken W.failures E.taken E.failures out
+        result.1 err.old err.new) result.0)
+        (EndsForLine (H.opens host.now) (H.refuses host.now) H.File.remaining H.File.failures
         Q.remaining Q.failures questions line
         (seen W.taken W.failures E.taken E.failures out result.1 err.old err.new) result.0)
+        line)
         (map string_bytes given.now) (seen W.taken W.failures E.taken E.failures out result.1
         err.old err.new) result.0 }
 {
@@ -344,8 +447,8 @@ fn answer_words<H: Host + AllocGlobal, Q: Feed + Drop, W: Sink + Drop, E: Sink>(
 
 // Runs the job of the sample.
 fn answer_sample<W: Sink + Drop, E: Sink>(alloc: Global, out: W, err: &mut E) -> (u8, W)
-    ensures { RanSample ⟦<FromRead<&'static [u8]> as Feed>⟧.remaining
-        ⟦<FromRead<&'static [u8]> as Feed>⟧.failures
+    ensures { RanSample ⟦<MemFile<'static> as Feed>⟧.remaining
+        ⟦<MemFile<'static> as Feed>⟧.failures
         (seen W.taken W.failures E.taken E.failures out result.1 err.old err.new) result.0 }
 {
     let mut note = Vec::new(alloc);
@@ -369,12 +472,16 @@ pub fn answer<H: Host + AllocGlobal, Q: Feed + Drop, W: Sink + Drop, E: Sink>(
     err: &mut E,
 ) -> (u8, W)
     ensures { EndsProgram (H.gives host.now) (H.garbles host.now)
-        (RanSample ⟦<FromRead<&'static [u8]> as Feed>⟧.remaining
-        ⟦<FromRead<&'static [u8]> as Feed>⟧.failures
-        (seen W.taken W.failures E.taken E.failures out result.1 err.old err.new) result.0) (λ line.
-        EndsForLine (H.opens host.now) (H.refuses host.now) H.File.remaining H.File.failures
+        (RanSample ⟦<MemFile<'static> as Feed>⟧.remaining
+        ⟦<MemFile<'static> as Feed>⟧.failures
+        (seen W.taken W.failures E.taken E.failures out result.1 err.old err.new) result.0) (λ line. EndsLine (RanHeaders
+        ⟦<MemFile<'static> as Feed>⟧.remaining ⟦<MemFile<'static> as Feed>⟧.failures
+        Q.remaining Q.failures questions line (seen W.taken W.failures E.taken E.failures out
+        result.1 err.old err.new) result.0)
+        (EndsForLine (H.opens host.now) (H.refuses host.now) H.File.remaining H.File.failures
         Q.remaining Q.failures questions line
         (seen W.taken W.failures E.taken E.failures out result.1 err.old err.new) result.0)
+        line)
         (seen W.taken W.failures E.taken E.failures out result.1 err.old err.new) result.0 }
 {
     match host.words() {

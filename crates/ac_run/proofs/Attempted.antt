@@ -11,20 +11,24 @@ use Rattle.ac_query.specs.Asked.{Asked}
 use Rattle.ac_query.specs.Laws.Gathered.{asked_by}
 use Rattle.ac_query.specs.Pairs.{pairs_of}
 use Rattle.ac_query.specs.declared.version.Version.{Version}
-use Rattle.ac_run.specs.Answer.{Outcome, answer, answer_by, answer_in, answer_within, past_query, past_tables, past_token, refused, said_by, size_refused, table_refused, with_detail}
-use Rattle.ac_run.specs.Details.{asked_remedy, asked_text, asks_text, behind, text_asked, fault_remedy, reading_remedy}
+use Rattle.ac_change.specs.declared.fault.ChangeKind.{ChangeKind}
+use Rattle.ac_run.specs.Answer.{Outcome, answer, answer_by, answer_in, answer_within, change_refused, past_query, past_tables, past_token, refused, said_by, size_refused, table_refused, with_detail}
+use Rattle.ac_run.specs.Changing.{change_fault, changed_by}
+use Rattle.ac_run.specs.Details.{asked_remedy, asked_text, asks_text, behind, changes_remedy, text_asked, fault_remedy, reading_remedy}
 use Rattle.ac_run.specs.Feeds.Draining.{ExplainsReading}
 use Rattle.ac_run.specs.Feeds.{Bytes, TellBytes, too_large}
 use Rattle.ac_run.specs.Wanted.Given.{tables_in, token_refusal}
 use Rattle.ac_run.specs.Comparing.{answer_refused}
 use Rattle.ac_run.specs.Lines.{answer_line, host_line, memory_line}
 use Rattle.ac_run.specs.Refusals.{IsRefusalWith, line_of, line_of_asked, line_of_tables, line_told, status_of, status_of_asked, status_of_tables, status_told}
-use Rattle.ac_run.specs.Run.{Explains, ExplainsTables, IsStated, IsWritten}
+use Rattle.ac_run.specs.Run.{Explains, ExplainsChanges, ExplainsTables, IsStated, IsWritten}
 use Rattle.ac_run.specs.Tasks.{Command, Paths, Task, check, candidates, tokens, list, fill, verify, explain, hosts, why, capacity, compare, audit, host_in, token_in}
+use Rattle.ac_run.specs.Tasks as command
 use Rattle.ac_run.specs.declared.refusal.AnswerRefusal.{AnswerRefusal}
 use Rattle.ac_run.specs.Wanted.{AsksOne, ExplainsWanted}
 use Rattle.ac_run.specs.declared.refusal.AskRefusal.{AskRefusal}
 use Rattle.ac_run.specs.declared.refusal.AskRefusal.TheVariants as ask
+use Rattle.ac_run.specs.declared.refusal.ChangesRefusal.TheVariants as changes
 use Rattle.ac_run.specs.declared.refusal.Refusal.{Refusal}
 use Rattle.ac_run.specs.declared.refusal.Refusal.TheVariants as whole
 use Rattle.ac_run.specs.declared.refusal.Refused.{Refused}
@@ -59,15 +63,19 @@ nothing_behind (Some paths) = refl
 
 -- ---- what is said past the tables
 
-module _ (detail : Option Paths) (b : Bytes) (say : World → Outcome) where
-  too_long : (t : Table) → too_large b ≡ Some t → past_tables detail b say ≡ size_refused detail t
+module _ (detail : Option Paths) (made : Option (List ℕ)) (b : Bytes) (say : World → Outcome) where
+  too_long : (t : Table) → too_large b ≡ Some t → past_tables detail made b say ≡ size_refused detail t
   too_long t h = rw h refl
 
-  faulty : (f : TableFault) → too_large b ≡ None → tables_fault (tables_in b) ≡ Some f → past_tables detail b say ≡ table_refused detail (tables_in b) f
+  faulty : (f : TableFault) → too_large b ≡ None → tables_fault (tables_in b) ≡ Some f → past_tables detail made b say ≡ table_refused detail (tables_in b) f
   faulty f few h = rw (few, h) refl
 
-  pub in_world : (world : World) → IsStated b world → past_tables detail b say ≡ say world
-  in_world world stated = rw (stated.few, stated.fine) (ap say (sym stated.states))
+  unmade : (f : ℕ × ChangeKind) → too_large b ≡ None → tables_fault (tables_in b) ≡ None → change_fault made (world_stated (tables_in b)) ≡ Some f
+      → past_tables detail made b say ≡ change_refused detail f
+  unmade f few fine h = rw (few, fine, h) refl
+
+  pub in_world : (world : World) → IsStated made b world → past_tables detail made b say ≡ say world
+  in_world world stated = rw (stated.few, stated.fine, stated.made) (ap say (sym stated.states))
 
 -- ---- what a refusal tells
 
@@ -89,21 +97,23 @@ refused_status r (Ok text) told is = rw is.1 (by r)
     by (tables.Unreadable t) = (0, omega arith, refl)
     by (tables.TooLarge t) = (0, omega arith, refl)
     by (tables.Record t row k) = (0, omega arith, refl)
+    by (tables.Changes f) = (0, omega arith, refl)
     by tables.NoMemory = (1, omega arith, refl)
 refused_status r (Err e) told is = rw is.1 (1, omega arith, refl)
 
 -- ---- why there is no world
 
-module _ {R : Type 0} (remaining : R → Option (List ℕ)) (failures : R → ℕ) (detail : Option Paths) (from to : FiveTables R) (say : World → Outcome) where
+module _ {R : Type 0} (remaining : R → Option (List ℕ)) (failures : R → ℕ) (detail : Option Paths) (made : Option (List ℕ)) (from to : FiveTables R) (say : World → Outcome) where
   abbrev IsWhy : List ℕ → ℕ → Type 0
-  IsWhy line status = Explains remaining failures detail (λ b. past_tables detail b say) from to line status
+  IsWhy line status = Explains remaining failures detail (λ b. past_tables detail made b say) from to line status
 
   -- the bytes of a table can't be had
   reading : (refusal : TablesRefusal) → ExplainsReading remaining failures from to refusal
       → IsWhy (line_of_tables refusal ++ behind detail (reading_remedy refusal)) (status_of_tables refusal)
   reading (tables.Unreadable t) h = inl (t, h, refl, refl)
-  reading (tables.TooLarge t) h = inr (inl (omega arith, omega arith, λ b tell. too_long detail b say t (h b tell)))
+  reading (tables.TooLarge t) h = inr (inl (omega arith, omega arith, λ b tell. too_long detail made b say t (h b tell)))
   reading (tables.Record t row k) h = absurd h
+  reading (tables.Changes f) h = absurd h
   reading tables.NoMemory h = inr (inr (ap (λ l. memory_line ++ l) (nothing_behind detail) ∙ append-nil memory_line, refl))
 
   pub read_told : {F : Type 0} (refusal : TablesRefusal) (text : Result (Vec ℕ) F) (told : Refused) → ExplainsReading remaining failures from to refusal
@@ -118,9 +128,10 @@ module _ {R : Type 0} (remaining : R → Option (List ℕ)) (failures : R → �
     faults : (refusal : TablesRefusal) → ExplainsTables (tables_fault (tables_in texts)) refusal
         → IsWhy (line_of_tables refusal ++ behind detail (fault_remedy (tables_in texts) refusal)) (status_of_tables refusal)
     faults (tables.Record t row k) h =
-        inr (inl (omega arith, omega arith, λ b tell. ap (λ b. past_tables detail b say) (sym (told b tell)) ∙ faulty detail texts say (fault.At t row k) few h))
+        inr (inl (omega arith, omega arith, λ b tell. ap (λ b. past_tables detail made b say) (sym (told b tell)) ∙ faulty detail made texts say (fault.At t row k) few h))
     faults (tables.Unreadable t) h = absurd h
     faults (tables.TooLarge t) h = absurd h
+    faults (tables.Changes f) h = absurd h
     faults tables.NoMemory h = inr (inr (ap (λ l. memory_line ++ l) (nothing_behind detail) ∙ append-nil memory_line, refl))
 
     pub fault_told : {F : Type 0} (refusal : TablesRefusal) (text : Result (Vec ℕ) F) (said : Refused) → ExplainsTables (tables_fault (tables_in texts)) refusal
@@ -131,10 +142,37 @@ module _ {R : Type 0} (remaining : R → Option (List ℕ)) (failures : R → �
       | inr last ↦ inr (inr last)
     ]
 
-    -- and state this world
-    pub is_stated : (world : World) → tables_fault (tables_in texts) ≡ None → world ≡ world_stated (tables_in texts)
-        → (b : Bytes) → TellBytes remaining from b → IsStated b world
-    is_stated world fine stated b tell = subst (λ b. IsStated b world) (told b tell) (record { few = few; fine = fine; states = stated })
+    -- and state a world, in which the changes have a fault
+    module _ (fine : tables_fault (tables_in texts) ≡ None) (world : World) (stated : world ≡ world_stated (tables_in texts)) where
+      unchanged : (refusal : TablesRefusal) → ExplainsChanges (change_fault made world) refusal
+          → IsWhy (line_of_tables refusal ++ behind detail (λ _. changes_remedy refusal)) (status_of_tables refusal)
+      unchanged (tables.Changes (changes.At row kind)) h =
+          inr (inl (
+            omega arith,
+            omega arith,
+            λ b tell. ap (λ b. past_tables detail made b say) (sym (told b tell))
+                ∙ unmade detail made texts say (row, kind) few fine (ap (change_fault made) (sym stated) ∙ h),
+          ))
+      unchanged (tables.Changes changes.Unreadable) h = absurd h
+      unchanged (tables.Changes changes.TooLarge) h = absurd h
+      unchanged (tables.Unreadable t) h = absurd h
+      unchanged (tables.TooLarge t) h = absurd h
+      unchanged (tables.Record t row k) h = absurd h
+      unchanged tables.NoMemory h = inr (inr (ap (λ l. memory_line ++ l) (nothing_behind detail) ∙ append-nil memory_line, refl))
+
+      pub change_told : {F : Type 0} (refusal : TablesRefusal) (text : Result (Vec ℕ) F) (said : Refused) → ExplainsChanges (change_fault made world) refusal
+          → IfOk text (λ t. t.items ≡ behind detail (λ _. changes_remedy refusal)) → IsRefusalWith (whole.Tables refusal) text said
+          → IsWhy (line_told said) (status_told said)
+      change_told r text said h remedy is = elim (tells (whole.Tables r) text said (behind detail (λ _. changes_remedy r)) is remedy) [
+        | inl this ↦ rw (this.0, this.1) (unchanged r h)
+        | inr last ↦ inr (inr last)
+      ]
+
+      -- or have none, and leave this world
+      pub is_stated : (new : World) → change_fault made world ≡ None → new ≡ changed_by made world → (b : Bytes) → TellBytes remaining from b → IsStated made b new
+      is_stated new right left b tell =
+          subst (λ b. IsStated made b new) (told b tell)
+          (record { few = few; fine = fine; made = ap (change_fault made) (sym stated) ∙ right; states = left ∙ ap (changed_by made) stated })
 
 -- ---- what was written of an outcome that is no refusal
 
@@ -147,12 +185,13 @@ module _ (text : List ℕ) (o said : Outcome) (old new : Option (List ℕ)) wher
 
 -- ---- what a task asks of a world
 
--- but for `check`, `capacity` and `audit` a command asks for a query
+-- but for `check`, `capacity`, `audit` and the parameters a command asks for a query
 pub asks_query : (command : Command) (detail : Bool) (version : Version) (query : List ℕ) (world : World) → AsksOne command
     → answer_by command detail version query world ≡ past_query (said_by command detail world) (token_in command) version query
 asks_query check detail version query world other = absurd other
 asks_query (capacity flavors metrics) detail version query world other = absurd other
 asks_query (audit _) detail version query world other = absurd other
+asks_query command.parameters detail version query world other = absurd other
 asks_query (candidates after at traits) detail version query world other = refl
 asks_query (tokens after at) detail version query world other = refl
 asks_query (list after at traits) detail version query world other = refl
@@ -162,6 +201,7 @@ asks_query explain detail version query world other = refl
 asks_query (hosts sum within) detail version query world other = refl
 asks_query (why host) detail version query world other = refl
 asks_query (compare answer) detail version query world other = refl
+asks_query command.reading detail version query world other = refl
 
 -- a host that names no provider is told behind the query and the token
 pub host_refused : (command : Command) (detail : Bool) (world : World) (asked : Asked) (host : List ℕ) (f : HostFault) → host_in command ≡ Some host
@@ -179,6 +219,8 @@ host_refused (hosts sum within) detail world asked host f is fine unknown = absu
 host_refused (capacity flavors metrics) detail world asked host f is fine unknown = absurd (cc)
 host_refused (compare answer) detail world asked host f is fine unknown = absurd (cc)
 host_refused (audit _) detail world asked host f is fine unknown = absurd (cc)
+host_refused command.reading detail world asked host f is fine unknown = absurd (cc)
+host_refused command.parameters detail world asked host f is fine unknown = absurd (cc)
 
 -- and so is an answer that can't be compared
 pub answer_refused_so : (answer : List ℕ) (detail : Bool) (world : World) (asked : Asked) (f : AnswerRefusal) → answer_refused answer ≡ Some f
@@ -190,6 +232,7 @@ asks_text_of : (command : Command) (all : List Provider) (task : Task) → AsksO
 asks_text_of check all task one = absurd one
 asks_text_of (capacity flavors metrics) all task one = absurd one
 asks_text_of (audit _) all task one = absurd one
+asks_text_of command.parameters all task one = absurd one
 asks_text_of (candidates after at traits) all task one = refl
 asks_text_of (tokens after at) all task one = refl
 asks_text_of (list after at traits) all task one = refl
@@ -199,6 +242,7 @@ asks_text_of explain all task one = refl
 asks_text_of (hosts sum within) all task one = refl
 asks_text_of (why host) all task one = refl
 asks_text_of (compare answer) all task one = refl
+asks_text_of command.reading all task one = refl
 
 module _ (task : Task) (world : World) where
   refused_in : (line text : List ℕ) (status : ℕ) → 3 ≤ status → answer_in task world ≡ refused line status → asked_text world.providers task ≡ text
@@ -229,13 +273,13 @@ module _ (task : Task) (world : World) where
       (asks_query task.command _ task.version task.query world h.0 ∙ rw (h.1, h.2.1, h.2.2) refl)
       (asks_text_of task.command world.providers task h.0 ∙ rw (h.1, h.2.1, h.2.2) refl)
 
-  module _ {R : Type 0} (remaining : R → Option (List ℕ)) (failures : R → ℕ) (from to : FiveTables R) (stated : (b : Bytes) → TellBytes remaining from b → IsStated b world) where
+  module _ {R : Type 0} (remaining : R → Option (List ℕ)) (failures : R → ℕ) (from to : FiveTables R) (stated : (b : Bytes) → TellBytes remaining from b → IsStated task.changes b world) where
     abbrev IsWhyAsked : List ℕ → ℕ → Type 0
     IsWhyAsked line status = Explains remaining failures task.detail (answer task) from to line status
 
     pub in_answer : (b : Bytes) → TellBytes remaining from b → answer task b ≡ answer_within task world
     unfolding answer
-    in_answer b tell = in_world task.detail b (answer_within task) world (stated b tell)
+    in_answer b tell = in_world task.detail task.changes b (answer_within task) world (stated b tell)
 
     this_very : (refusal : AskRefusal) → ExplainsWanted task world refusal → (refusal ≡ ask.NoMemory → ⊥) → 3 ≤ status_of_asked refusal → status_of_asked refusal ≤ 5
         → IsWhyAsked (line_of_asked refusal ++ behind task.detail (λ _. asked_remedy task refusal)) (status_of_asked refusal)
@@ -260,7 +304,7 @@ module _ (task : Task) (world : World) where
 
 -- what explains what is said past the tables explains the answer
 pub as_answer : (task : Task) {R : Type 0} (remaining : R → Option (List ℕ)) (failures : R → ℕ) (from to : FiveTables R) (line : List ℕ) (status : ℕ)
-    → Explains remaining failures task.detail (λ b. past_tables task.detail b (answer_within task)) from to line status
+    → Explains remaining failures task.detail (λ b. past_tables task.detail task.changes b (answer_within task)) from to line status
     → Explains remaining failures task.detail (answer task) from to line status
 unfolding answer
 as_answer task remaining failures from to line status because = because

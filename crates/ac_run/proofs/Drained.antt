@@ -83,4 +83,5 @@ pub explains : {R : Type 0} (remaining : R → Option (List ℕ)) (failures : R 
 explains remaining failures old new t rose many (tables.Unreadable s) h rises large = subst (FeedRose failures old new) (sym h.0) (rises h.1)
 explains remaining failures old new t rose many (tables.TooLarge s) h rises large = λ b tell. large h.1 b tell ∙ ap (λ x. Some x) (sym h.0)
 explains remaining failures old new t rose many (tables.Record s row k) h rises large = absurd h
+explains remaining failures old new t rose many (tables.Changes f) h rises large = absurd h
 explains remaining failures old new t rose many tables.NoMemory h rises large = tt

@@ -8,5 +8,6 @@ pub mod HostFound
 pub mod FaultsTold
 pub mod StatedRequests
 pub mod HostsThere
+pub mod QueriesRead
 pub mod FlavorsRead
 pub mod Comparing

@@ -25,6 +25,8 @@ use Rattle.ac_report.specs.Texts.{body, lines, shown_providers}
 use Rattle.ac_fill.specs.Bounds.{most_placed, shorts}
 use Rattle.ac_fill.specs.Filled.{filled}
 use Rattle.ac_run.specs.Outputs.{counted, counts, detailed_text, fill_status, sum_text, verdict_status, verdict_text}
+use Rattle.ac_run.specs.Outputs.Parameters.{parameters_text}
+use Rattle.ac_run.specs.Outputs.QueryRows.{reading_text}
 use Rattle.ac_find.specs.Audit.{findings}
 use Rattle.ac_report.specs.Findings.AuditRows.{audit_status, audit_text}
 use Rattle.ac_report.specs.Findings.Explanation.{explanation_status, explanation_text}
@@ -32,7 +34,9 @@ use Rattle.ac_report.specs.Findings.Explanation.Candidates.{has_candidate}
 use Rattle.ac_report.specs.Findings.HostRows.{hosts_status, hosts_text}
 use Rattle.ac_report.specs.Findings.HostSums.{sums_text}
 use Rattle.ac_report.specs.Findings.WhyRows.{root_place, why_status, why_text}
+use Rattle.ac_change.specs.declared.fault.ChangeKind.{ChangeKind}
 use Rattle.ac_run.specs.Capacity.{capacity_status, room_of, rooms_text}
+use Rattle.ac_run.specs.Changing.{change_fault, change_line, change_remedy, world_in}
 use Rattle.ac_run.specs.Compared.{answer_read, compared_status, compared_text}
 use Rattle.ac_run.specs.Comparing.{answer_refused}
 use Rattle.ac_run.specs.Feeds.{Bytes, too_large}
@@ -173,6 +177,14 @@ compare_said answer all asked ids = told (answer_refused answer) (λ why. refuse
 abbrev pub amiss : World → Option ℕ → Outcome
 amiss world zone = written (audit_text (findings world zone)) (audit_status (findings world zone))
 
+-- how a query is read
+abbrev pub reading : Says
+reading asked ids = written (reading_text asked) 0
+
+-- the parameters of a query
+abbrev pub parameters : Outcome
+parameters = written parameters_text 0
+
 -- the aggregate that a text names by its UUID; another text names none
 abbrev pub zone_named : Option (List ℕ) → Option ℕ
 zone_named zone = option_and_then id_value zone
@@ -200,12 +212,15 @@ said_by (command.why host) detail world = why_rows world.providers host
 said_by (command.capacity flavors metrics) detail world = λ asked ids. capacities metrics world.providers []
 said_by (command.compare answer) detail world = compare_said answer world.providers
 said_by (command.audit zone) detail world = λ asked ids. amiss world (zone_named zone)
+said_by command.reading detail world = reading
+said_by command.parameters detail world = λ asked ids. parameters
 
--- the answer of a command; `check` and `audit` ask for no query, and `capacity` for those of its flavors
+-- the answer of a command; `check`, `audit` and the parameters ask for no query, and `capacity` for those of its flavors
 abbrev pub answer_by : Command → Bool → Version → List ℕ → World → Outcome
 answer_by command.check detail version query world = written (counts world.sizes) 0
 answer_by (command.capacity flavors metrics) detail version query world = capacity_said version flavors metrics world.providers
 answer_by (command.audit zone) detail version query world = amiss world (zone_named zone)
+answer_by command.parameters detail version query world = parameters
 answer_by asks detail version query world = past_query (said_by asks detail world) (token_in asks) version query
 
 -- the answer to a task in a world
@@ -235,11 +250,16 @@ abbrev pub table_refused : Option Paths → Tables → TableFault → Outcome
 table_refused detail stated (fault.At t row k) = refused (record_line t row k ++ behind detail (λ paths. fault_text paths stated t row k)) 3
 table_refused detail stated fault.NoMemory = refused memory_line 7
 
--- what is said of the world that the bytes of five tables state, unless they are refused
-abbrev pub past_tables : Option Paths → Bytes → (World → Outcome) → Outcome
-past_tables detail b say =
-    told (too_large b) (size_refused detail) (told (tables_fault (tables_in b)) (table_refused detail (tables_in b)) (say (world_stated (tables_in b))))
+-- the first fault of changes
+abbrev pub change_refused : Option Paths → ℕ × ChangeKind → Outcome
+change_refused detail f = refused (change_line f.0 f.1 ++ behind detail (λ paths. change_remedy f.1)) 3
+
+-- what is said of the world that the bytes of five tables state, as changes leave it, unless the tables or the changes are refused
+abbrev pub past_tables : Option Paths → Option (List ℕ) → Bytes → (World → Outcome) → Outcome
+past_tables detail changes b say =
+    told (too_large b) (size_refused detail) (told (tables_fault (tables_in b)) (table_refused detail (tables_in b))
+    (told (change_fault changes (world_stated (tables_in b))) (change_refused detail) (say (world_in changes b))))
 
 -- the answer to a task over the bytes of five tables
 unfoldable pub answer : Task → Bytes → Outcome
-answer task b = past_tables task.detail b (answer_within task)
+answer task b = past_tables task.detail task.changes b (answer_within task)

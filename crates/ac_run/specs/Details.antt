@@ -12,6 +12,7 @@ use Rattle.ac_query.specs.Shown.Faults.{fault_shown}
 use Rattle.ac_query.specs.declared.version.Version.{Version}
 use Rattle.ac_remedies.specs.Queries.{host_remedy, query_remedy, token_remedy}
 use Rattle.ac_remedies.specs.Tables.{record_remedy, size_remedy, unread_remedy}
+use Rattle.ac_run.specs.Changing.{change_remedy}
 use Rattle.ac_run.specs.Comparing.{answer_refused}
 use Rattle.ac_run.specs.Wanted.Given.{token_refusal}
 use Rattle.ac_run.specs.Flavors.{flavors_refused, why_shown}
@@ -20,6 +21,7 @@ use Rattle.ac_run.specs.declared.refusal.AnswerRefusal.{AnswerRefusal}
 use Rattle.ac_run.specs.declared.refusal.AnswerRefusal.TheVariants as answer
 use Rattle.ac_run.specs.declared.refusal.AskRefusal.{AskRefusal}
 use Rattle.ac_run.specs.declared.refusal.AskRefusal.TheVariants as ask
+use Rattle.ac_run.specs.declared.refusal.ChangesRefusal.TheVariants as changes
 use Rattle.ac_run.specs.declared.refusal.TablesRefusal.{TablesRefusal}
 use Rattle.ac_run.specs.declared.refusal.TablesRefusal.TheVariants as tables
 use Rattle.ac_tables.specs.FiveTables.{table_in}
@@ -63,7 +65,7 @@ host_said host (Err f) = host_remedy host f
 
 -- of an answer of the service that is no answer of it
 unfoldable pub answer_remedy : AnswerRefusal → List ℕ
-answer_remedy answer.BadAnswer = codes "It is to be the body that the service answers GET /allocation_candidates with: JSON, with allocation_requests of 1.34 or later.\n"
+answer_remedy answer.BadAnswer = codes "  It is to be the body that the service answers GET /allocation_candidates with: JSON, with allocation_requests of 1.34 or later.\n"
 answer_remedy _ = []
 
 abbrev pub answer_text : Command → List ℕ
@@ -109,6 +111,11 @@ reading_remedy _ = λ paths. []
 abbrev pub fault_remedy : Tables → TablesRefusal → Paths → List ℕ
 fault_remedy stated (tables.Record t row kind) = λ paths. fault_text paths stated t row kind
 fault_remedy stated _ = λ paths. []
+
+-- of what is changed
+abbrev pub changes_remedy : TablesRefusal → List ℕ
+changes_remedy (tables.Changes (changes.At line why)) = change_remedy why
+changes_remedy _ = []
 
 -- of what is asked and refused
 abbrev pub asked_remedy : Task → AskRefusal → List ℕ

@@ -6,6 +6,7 @@ pub mod Compared
 pub mod Comparing
 pub mod Tasks
 pub mod Capacity
+pub mod Changing
 pub mod Rooms
 pub mod Details
 pub mod Wanted

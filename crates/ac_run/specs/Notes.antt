@@ -6,13 +6,12 @@ use Rattle.ac_query.specs.Laws.Gathered.{asked_by}
 use Rattle.ac_query.specs.Pairs.{pairs_of}
 use Rattle.ac_query.specs.Shown.Queries.{asked_of}
 use Rattle.ac_report.specs.Findings.Explanation.Differing.{differs_lines}
+use Rattle.ac_run.specs.Changing.{world_in}
 use Rattle.ac_run.specs.Feeds.{Bytes}
 use Rattle.ac_run.specs.Tasks.{Command, Task}
 use Rattle.ac_run.specs.Tasks as command
-use Rattle.ac_run.specs.Wanted.Given.{tables_in}
 use Rattle.ac_run.specs.declared.wanted.Wanted.{Wanted}
 use Rattle.ac_run.specs.declared.wanted.Wanted.TheVariants as wanted
-use Rattle.ac_tables.specs.Tables.{world_stated}
 
 -- whether a command's answer says nothing of the service by itself
 abbrev pub is_noted : Command → Bool
@@ -32,7 +31,7 @@ noted_in task world = if is_some task.detail then noted_by task.command world (a
 
 -- over the bytes of five tables
 abbrev pub noted : Task → Bytes → List ℕ
-noted task b = noted_in task (world_stated (tables_in b))
+noted task b = noted_in task (world_in task.changes b)
 
 -- of what is wanted
 abbrev pub note_to : Wanted → World → List ℕ

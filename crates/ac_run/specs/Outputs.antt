@@ -1,4 +1,8 @@
 -- The small outputs: the counts of the tables, the verdict on a list, and how many placements there are.
+pub mod Parameters
+pub mod Plain
+pub mod QueryRows
+pub mod Shown
 use Rattle.std.specs.Prelude.{ℕ, ◌==◌, min, nat_le, List, [], ◌∷◌, ◌++◌, codes, length, Option, unwrap_or, if◌then◌else◌}
 use Rattle.std.specs.List.{flat_map}
 use Rattle.std.specs.Fmt.{decimal}

@@ -2,10 +2,13 @@
 use Rattle.std.specs.Prelude.{◌≡◌, ℕ, List, ◌++◌, Result, Ok, Err}
 use Rattle.std.specs.Global.{Vec}
 use Rattle.ac_query.specs.Shown.Faults.{fault_shown}
+use Rattle.ac_run.specs.Changing.{change_line, changes_large_line, changes_unread_line}
 use Rattle.ac_run.specs.Flavors.{query_told, why_shown}
 use Rattle.ac_run.specs.Lines.{answer_line, unreadable_line, too_large_line, record_line, token_line, host_line, memory_line, output_line, tries_line}
 use Rattle.ac_run.specs.declared.refusal.AskRefusal.{AskRefusal}
 use Rattle.ac_run.specs.declared.refusal.AskRefusal.TheVariants as ask
+use Rattle.ac_run.specs.declared.refusal.ChangesRefusal.{ChangesRefusal}
+use Rattle.ac_run.specs.declared.refusal.ChangesRefusal.TheVariants as changes
 use Rattle.ac_run.specs.declared.refusal.Refusal.{Refusal}
 use Rattle.ac_run.specs.declared.refusal.Refusal.TheVariants as why
 use Rattle.ac_run.specs.declared.refusal.Refused.{Refused}
@@ -14,10 +17,17 @@ use Rattle.ac_run.specs.declared.refusal.TablesRefusal.TheVariants as tables
 
 -- ---- of the tables
 
+-- of what is changed in them
+abbrev pub changes_line : ChangesRefusal → List ℕ
+changes_line changes.Unreadable = changes_unread_line
+changes_line changes.TooLarge = changes_large_line
+changes_line (changes.At line why) = change_line line why
+
 abbrev pub line_of_tables : TablesRefusal → List ℕ
 line_of_tables (tables.Unreadable t) = unreadable_line t
 line_of_tables (tables.TooLarge t) = too_large_line t
 line_of_tables (tables.Record t row k) = record_line t row k
+line_of_tables (tables.Changes f) = changes_line f
 line_of_tables tables.NoMemory = memory_line
 
 abbrev pub status_of_tables : TablesRefusal → ℕ

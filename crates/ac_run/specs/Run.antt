@@ -9,7 +9,9 @@ use Rattle.ac_tables.specs.declared.fault.TableFault.{TableFault}
 use Rattle.ac_tables.specs.declared.fault.TableFault.TheVariants as fault
 use Rattle.ac_tables.specs.Tables.{tables_fault, world_stated}
 use Rattle.ac_cloud.specs.World.{World}
+use Rattle.ac_change.specs.declared.fault.ChangeKind.{ChangeKind}
 use Rattle.ac_run.specs.Answer.{Outcome, refused}
+use Rattle.ac_run.specs.Changing.{change_fault, world_in}
 use Rattle.ac_run.specs.Details.{behind, unread_text}
 use Rattle.ac_run.specs.Wanted.Given.{tables_in}
 use Rattle.ac_run.specs.Tasks.{Paths}
@@ -17,6 +19,7 @@ use Rattle.ac_run.specs.Feeds.{Bytes, TellBytes, FeedRose, too_large}
 use Rattle.ac_run.specs.Lines.{memory_line, output_line, tries_line, unreadable_line}
 use Rattle.ac_base.specs.Writing.{TakesLine}
 use Rattle.ac_tables.specs.declared.read.FiveTables.{FiveTables}
+use Rattle.ac_run.specs.declared.refusal.ChangesRefusal.TheVariants as changes
 use Rattle.ac_run.specs.declared.refusal.TablesRefusal.{TablesRefusal}
 use Rattle.ac_run.specs.declared.refusal.TablesRefusal.TheVariants as tables
 
@@ -42,23 +45,22 @@ ExplainsTables first (tables.Record t row k) = first ≡ Some (fault.At t row k)
 ExplainsTables first tables.NoMemory = ⊤
 ExplainsTables first _ = ⊥
 
+-- why changes leave no cloud: their first fault
+abbrev pub ExplainsChanges : Option (ℕ × ChangeKind) → TablesRefusal → Type 0
+ExplainsChanges first (tables.Changes (changes.At line why)) = first ≡ Some (line, why)
+ExplainsChanges first tables.NoMemory = ⊤
+ExplainsChanges first _ = ⊥
+
 -- the line of a table that can't be read, with what stands behind it where more is told
 abbrev pub unread_line : Option Paths → Table → List ℕ
 unread_line detail t = unreadable_line t ++ behind detail (λ paths. unread_text paths t)
 
--- the tables of these bytes are few enough and have no fault, and they state this world
-pub record IsStated (b : Bytes) (world : World) : Type 0 where
+-- the tables of these bytes are few enough and have no fault, nor have the changes, and they leave this world
+pub record IsStated (changes : Option (List ℕ)) (b : Bytes) (world : World) : Type 0 where
   pub few : too_large b ≡ None
   pub fine : tables_fault (tables_in b) ≡ None
-  pub states : world ≡ world_stated (tables_in b)
-
--- why the tables of feeds state no world: a feed failed, a table has too many bytes, or the tables have a fault; or memory gave out
-abbrev pub ExplainsInputs : {R : Type 0} → (R → Option (List ℕ)) → (R → ℕ) → FiveTables R → FiveTables R → TablesRefusal → Type 0
-ExplainsInputs remaining failures from to (tables.Unreadable t) = FeedRose failures from to t
-ExplainsInputs remaining failures from to (tables.TooLarge t) = (b : Bytes) → TellBytes remaining from b → too_large b ≡ Some t
-ExplainsInputs remaining failures from to (tables.Record t row k) =
-    (b : Bytes) → TellBytes remaining from b → (too_large b ≡ None) × (tables_fault (tables_in b) ≡ Some (fault.At t row k))
-ExplainsInputs remaining failures from to tables.NoMemory = ⊤
+  pub made : change_fault changes (world_stated (tables_in b)) ≡ None
+  pub states : world ≡ world_in changes b
 
 -- Why nothing was answered, by the line that tells it and its status, where this is said of bytes: a feed failed, what is said is this very refusal, or memory
 -- gave out.

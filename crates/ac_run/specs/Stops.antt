@@ -10,15 +10,14 @@ use Rattle.ac_query.specs.Tokens.{ids_of}
 use Rattle.ac_query.specs.declared.version.Version.{Version}
 use Rattle.ac_report.specs.Findings.Explanation.Candidates.{ExplanationMayStop}
 use Rattle.ac_run.specs.Answer.{ids_given}
+use Rattle.ac_run.specs.Changing.{world_in}
 use Rattle.ac_run.specs.Feeds.{Bytes}
 use Rattle.ac_run.specs.Flavors.{Plan, plan_shown, plans_of}
 use Rattle.ac_run.specs.Tasks.{Command, Task}
 use Rattle.ac_run.specs.Tasks as command
-use Rattle.ac_run.specs.Wanted.Given.{tables_in}
 use Rattle.ac_run.specs.declared.wanted.Wanted.{Wanted}
 use Rattle.ac_run.specs.declared.wanted.Wanted.TheVariants as wanted
 use Rattle.ac_search.specs.Shown.Walk.{MayStop}
-use Rattle.ac_tables.specs.Tables.{world_stated}
 
 -- a search of one of some flavors may stop
 abbrev pub OneMayStop : Option ℕ → List Provider → List Plan → Type 0
@@ -38,10 +37,12 @@ SearchMayStop (command.why host) version tries all asked = MayStop tries all ask
 SearchMayStop (command.capacity flavors metrics) version tries all asked = OneMayStop tries all (plans_of version flavors)
 SearchMayStop (command.compare answer) version tries all asked = MayStop tries all asked None
 SearchMayStop (command.audit _) version tries all asked = ⊥
+SearchMayStop command.reading version tries all asked = ⊥
+SearchMayStop command.parameters version tries all asked = ⊥
 
 -- a search of a task may stop, over the bytes of five tables
 abbrev pub TaskMayStop : Task → Bytes → Type 0
-TaskMayStop task b = SearchMayStop task.command task.version task.tries (world_stated (tables_in b)).providers (asked_by task.version (pairs_of task.query))
+TaskMayStop task b = SearchMayStop task.command task.version task.tries (world_in task.changes b).providers (asked_by task.version (pairs_of task.query))
 
 -- a search for what is wanted may stop, with so many tries
 abbrev pub AnswerMayStop : Wanted → Option ℕ → List Provider → Type 0
@@ -57,3 +58,5 @@ AnswerMayStop (wanted.Why query host) tries all = MayStop tries all (asked_of qu
 AnswerMayStop (wanted.Capacity plans metrics) tries all = OneMayStop tries all (map plan_shown plans.items)
 AnswerMayStop (wanted.Comparison query answer) tries all = MayStop tries all (asked_of query) None
 AnswerMayStop (wanted.Amiss _) tries all = ⊥
+AnswerMayStop (wanted.Reading query) tries all = ⊥
+AnswerMayStop wanted.Parameters tries all = ⊥

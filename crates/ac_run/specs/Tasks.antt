@@ -9,7 +9,8 @@ use Rattle.ac_run.specs.declared.job.Job.{Job}
 use Rattle.ac_tables.specs.declared.read.FiveTables.{FiveTables}
 
 -- what is to be done: with the token to begin after, or to judge; with the host at whose root candidates are to stand; with traits, or not; with the number of placements in place of their tokens, or not;
--- with the host that is asked about; with the text of a table of flavors, as rows or as metrics; with an answer of the service; with an aggregate as the zone of hosts
+-- with the host that is asked about; with the text of a table of flavors, as rows or as metrics; with an answer of the service; with an aggregate as the zone of hosts;
+-- how a query is read, and the parameters of a query
 pub data Command : Type 0 where
   check : Command
   candidates : Option (List ℕ) → Option (List ℕ) → Bool → Command
@@ -23,17 +24,20 @@ pub data Command : Type 0 where
   capacity : List ℕ → Bool → Command
   compare : List ℕ → Command
   audit : Option (List ℕ) → Command
+  reading : Command
+  parameters : Command
 
 -- the paths of the tables' files, as they were given
 abbrev pub Paths : Type 0
 Paths = FiveTables (List ℕ)
 
--- what is asked: the query, the version that reads it, how many tries each search may make, and the paths where more is told
+-- what is asked: the query, the version that reads it, how many tries each search may make, what is changed before, and the paths where more is told
 pub record Task : Type 0 where
   pub command : Command
   pub query : List ℕ
   pub version : Version
   pub tries : Option ℕ
+  pub changes : Option (List ℕ)
   pub detail : Option Paths
 
 -- the token to judge, or to begin after
@@ -67,6 +71,8 @@ command_shown (variant.Why host) = why host.now
 command_shown (variant.Capacity flavors metrics) = capacity flavors.now metrics
 command_shown (variant.Compare answer) = compare answer.now
 command_shown (variant.Audit zone) = audit (option_map (λ t. t.now) zone)
+command_shown variant.Query = reading
+command_shown variant.Parameters = parameters
 
 abbrev pub paths_shown : FiveTables (Bor (List ℕ)) → Paths
 paths_shown p = record {
@@ -80,5 +86,8 @@ paths_shown p = record {
 abbrev pub detail_shown : Option (Bor (FiveTables (Bor (List ℕ)))) → Option Paths
 detail_shown detail = option_map (λ paths. paths_shown paths.now) detail
 
+abbrev pub changes_shown : Option (Bor (List ℕ)) → Option (List ℕ)
+changes_shown changes = option_map (λ t. t.now) changes
+
 abbrev pub task_of : Job → Task
-task_of job = record { command = command_shown job.command; query = job.query.now; version = job.version; tries = job.tries; detail = detail_shown job.detail }
+task_of job = record { command = command_shown job.command; query = job.query.now; version = job.version; tries = job.tries; changes = changes_shown job.changes; detail = detail_shown job.detail }

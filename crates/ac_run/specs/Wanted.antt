@@ -16,13 +16,14 @@ use Rattle.ac_query.specs.Shown.Faults.{fault_shown}
 use Rattle.ac_query.specs.Shown.Queries.{asked_of}
 use Rattle.ac_query.specs.Tokens.{ids_of}
 use Rattle.ac_query.specs.declared.token.TokenFault.{TokenFault}
-use Rattle.ac_run.specs.Answer.{Outcome, amiss, capacities, comparison, explanation, fills, host_rows, page_body, page_lines, page_rows, verdict_line, why_not, written}
+use Rattle.ac_run.specs.Answer.{Outcome, amiss, capacities, comparison, explanation, fills, host_rows, page_body, page_lines, page_rows, parameters, reading, verdict_line, why_not, written}
 use Rattle.ac_run.specs.Compared.Answers.{texts_in}
 use Rattle.ac_run.specs.Comparing.{answer_refused}
 use Rattle.ac_run.specs.Wanted.Given.{token_refusal}
 use Rattle.ac_run.specs.Outputs.{counts}
 use Rattle.ac_run.specs.Flavors.{Why, flavors_refused, plan_shown, why_shown}
 use Rattle.ac_run.specs.Tasks.{Command, Task, audit, capacity, check, compare, host_in, token_in}
+use Rattle.ac_run.specs.Tasks as command
 use Rattle.ac_run.specs.declared.refusal.AnswerRefusal.{AnswerRefusal}
 use Rattle.ac_run.specs.declared.refusal.AskRefusal.{AskRefusal}
 use Rattle.ac_run.specs.declared.refusal.AskRefusal.TheVariants as ask
@@ -43,6 +44,8 @@ answer_to (wanted.Why query host) world = why_not world.providers (asked_of quer
 answer_to (wanted.Capacity plans metrics) world = capacities metrics world.providers (map plan_shown plans.items)
 answer_to (wanted.Comparison query answer) world = comparison world.providers (asked_of query) (texts_in answer)
 answer_to (wanted.Amiss zone) world = amiss world zone
+answer_to (wanted.Reading query) world = reading (asked_of query) None
+answer_to wanted.Parameters world = parameters
 
 -- The token on which a verdict is wanted has an id for each slot of the query; a query that is placed again and again asks for an amount of a class; and
 -- the provider that is asked about is there. So does that of each flavor.
@@ -112,11 +115,12 @@ ExplainsPage all asked after at (ask.Host f) = (host : List ℕ) × (at ≡ Some
 ExplainsPage all asked after at ask.NoMemory = ⊤
 ExplainsPage all asked after at _ = ⊥
 
--- it asks for one query: `check` and `audit` ask for none, and `capacity` for those of its flavors
+-- it asks for one query: `check`, `audit` and the parameters ask for none, and `capacity` for those of its flavors
 abbrev pub AsksOne : Command → Type 0
 AsksOne check = ⊥
 AsksOne (capacity flavors metrics) = ⊥
 AsksOne (audit _) = ⊥
+AsksOne command.parameters = ⊥
 AsksOne _ = ⊤
 
 -- What is wrong with the query of a task, and else with its token, its host or its answer, or with its flavors; or want of memory. One that asks for no query is not refused.

@@ -9,7 +9,7 @@ ghost use Rattle.ac_query.specs.Shown.Queries.{asked_of};
 ghost use Rattle.ac_query.specs.Tokens.{ids_of};
 ghost use Rattle.ac_prune.specs.Fitting.{fitting};
 ghost use Rattle.ac_find.specs.Lacking.{lacks_of};
-ghost use Rattle.ac_run.specs.Answer.{amiss, comparison, explanation, host_rows, hosts_told, page_body, page_lines, page_rows, verdict_line, verdict_on, why_not, written};
+ghost use Rattle.ac_run.specs.Answer.{amiss, comparison, explanation, host_rows, hosts_told, page_body, page_lines, page_rows, parameters, reading, verdict_line, verdict_on, why_not, written};
 ghost use Rattle.ac_run.specs.Compared.Answers.{texts_in};
 ghost use Rattle.ac_run.specs.Wanted.{IsSound, answer_to};
 ghost use Rattle.ac_run.specs.Outputs.{counts, detailed_text, verdict_status, verdict_text};
@@ -24,6 +24,8 @@ ghost use Rattle.ac_search.specs.Shown.Walk.{MayStop};
 use crate::capacity::placements::{walk_all, write_fill};
 use crate::capacity::write_capacity;
 use crate::outputs::compared::{ServiceAnswer, write_compared};
+use crate::outputs::parameters::push_parameters;
+use crate::outputs::query_rows::reading_text;
 use crate::outputs::{detailed_line, push_counts, push_text, push_verdict, verdict_status};
 use crate::wanted::{Page, Wanted};
 use ac_base::{Id, NoMemory, Sink};
@@ -360,6 +362,25 @@ fn write_audit<W: Sink>(
     push_text(out, &text, if found.is_empty() { 0 } else { 1 })
 }
 
+// How a query is read.
+#[tactic(auto, using(crate::proofs::Delivering::refused))]
+fn write_reading<W: Sink>(alloc: Global, query: &Query, out: &mut W) -> Result<u8, PageFault>
+    ensures { Delivers (reading (asked_of query.now) None) ⊥ result (W.taken out.old)
+        (W.taken out.new) (W.failures out.old) (W.failures out.new) }
+{
+    let text = reading_text(alloc, query)?;
+    push_text(out, &text, 0)
+}
+
+// The parameters of a query.
+fn write_parameters<W: Sink>(out: &mut W) -> Result<u8, PageFault>
+    ensures { Delivers parameters ⊥ result (W.taken out.old) (W.taken out.new)
+        (W.failures out.old) (W.failures out.new) }
+{
+    push_parameters(out)?;
+    Ok(0)
+}
+
 /// Writes what is wanted of a cloud, and gives its status. Each search may make so many tries; without a number, as many as it takes.
 pub fn write_answer<W: Sink>(
     alloc: Global,
@@ -395,5 +416,7 @@ pub fn write_answer<W: Sink>(
             write_comparison(alloc, cloud, query, answer, tries, out)
         }
         Wanted::Amiss(zone) => write_audit(alloc, cloud, *zone, out),
+        Wanted::Reading(query) => write_reading(alloc, query, out),
+        Wanted::Parameters => write_parameters(out),
     }
 }

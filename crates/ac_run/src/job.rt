@@ -60,18 +60,24 @@ pub enum Command<'a> {
     Audit {
         zone: Option<&'a str>,
     },
+    /// Writes how a query is read: a row for each slot, what it asks of the whole, and the query written plainly.
+    Query,
+    /// Writes the parameters of a query, a line each with an example.
+    Parameters,
 }
 
 /// What is to be done, for which query.
 #[derive(Clone, Copy)]
 pub struct Job<'a> {
     pub command: Command<'a>,
-    /// What is asked for; empty for `Check`, `Capacity` and `Audit`.
+    /// What is asked for; empty for `Check`, `Capacity`, `Audit` and `Parameters`.
     pub query: &'a str,
-    /// The microversion of the API by which queries are read; for `Check` and `Audit` it says nothing.
+    /// The microversion of the API by which queries are read; for `Check`, `Audit` and `Parameters` it says nothing.
     pub version: Version,
     /// How many tries each search may make; without a number, as many as it takes.
     pub tries: Option<u64>,
+    /// What is changed of the cloud before anything is asked of it, a line each.
+    pub changes: Option<&'a [u8]>,
     /// The paths of the tables' files, where more is told: behind the line of a refusal what to do about it, of a verdict of what a rule is broken, and in the
     /// note of a run where the service may answer otherwise.
     pub detail: Option<&'a Paths<'a>>,

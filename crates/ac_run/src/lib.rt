@@ -23,7 +23,9 @@ pub use job::{Command, Job, Paths};
 pub use outputs::push_verdict;
 pub use ready::read_inputs;
 pub use refusal::lines::{asked_status, push_asked_line, tell};
-pub use refusal::{AnswerRefusal, AskRefusal, FlavorsRefusal, Refusal, Refused, TablesRefusal};
+pub use refusal::{
+    AnswerRefusal, AskRefusal, ChangesRefusal, FlavorsRefusal, Refusal, Refused, TablesRefusal,
+};
 pub use run_job::run;
 pub use wanted::mark::{has_path, past_mark};
 pub use wanted::{Wanted, find_root, read_query, read_token, read_wanted};

@@ -9,6 +9,9 @@ ghost use Rattle.ac_run.specs.Answer.{written};
 ghost use Rattle.ac_run.specs.Run.{Delivers};
 
 pub(crate) mod compared;
+pub(crate) mod parameters;
+mod plain;
+pub(crate) mod query_rows;
 
 use ac_base::{Digits, NoMemory, Sink, WriteFailed, push_all, push_pieces};
 use ac_fill::{Bound, Short};

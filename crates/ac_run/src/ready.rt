@@ -1,28 +1,32 @@
 //! What a run has before the first byte of output: the cloud that the tables state, what is wanted of it, and what is to be told behind the answer.
-ghost use Rattle.std.specs.Prelude.{◌≡◌, ◌∷◌, [], Contains, IfOk, IfErr, OnOk, None};
+ghost use Rattle.std.specs.Prelude.{◌≡◌, ◌∷◌, ℕ, [], Contains, IfOk, IfErr, OnOk, None, Option, Some};
 ghost use Rattle.std.specs.Option.{option_map};
 ghost use Rattle.ac_tables.specs.Source.{AreFew, tables_of};
 ghost use Rattle.ac_tables.specs.Tables.{tables_fault, world_stated};
+ghost use Rattle.ac_change.specs.Faults.{TellsLine};
+ghost use Rattle.ac_change.specs.declared.fault.ChangeKind.{ChangeKind};
 ghost use Rattle.ac_cloud.specs.World.{World};
 ghost use Rattle.ac_cloud.specs.Cloud.CloudWorld.{providers_of, world_of};
 ghost use Rattle.ac_run.specs.Answer.{Outcome, answer, past_tables, remedy_in, with_detail};
+ghost use Rattle.ac_run.specs.Changing.{change_fault, changed_by};
 ghost use Rattle.ac_run.specs.Wanted.Given.{tables_in};
 ghost use Rattle.ac_run.specs.Notes.{noted};
 ghost use Rattle.ac_run.specs.Wanted.{IsSound, answer_to};
 ghost use Rattle.ac_run.specs.Feeds.Draining.{texts_shown};
 ghost use Rattle.ac_run.specs.Feeds.{Bytes, TellBytes, too_large};
-ghost use Rattle.ac_run.specs.Tasks.{detail_shown, task_of};
+ghost use Rattle.ac_run.specs.Tasks.{changes_shown, detail_shown, task_of};
 ghost use Rattle.ac_run.specs.Refusals.{line_told, status_told};
 ghost use Rattle.ac_run.specs.Stops.{AnswerMayStop, TaskMayStop};
-ghost use Rattle.ac_run.specs.Run.{Explains, ExplainsTables, IsStated};
+ghost use Rattle.ac_run.specs.Run.{Explains, ExplainsChanges, ExplainsTables, IsStated};
 
 use crate::inputs::{Inputs, Texts, read_tables};
 use crate::job::{Job, Paths};
 use crate::notes::note_if_told;
-use crate::refusal::details::{asked_detail, fault_detail, reading_detail};
-use crate::refusal::{Refusal, Refused, TablesRefusal};
+use crate::refusal::details::{asked_detail, changes_detail, fault_detail, reading_detail};
+use crate::refusal::{ChangesRefusal, Refusal, Refused, TablesRefusal};
 use crate::wanted::{Wanted, read_wanted};
 use ac_base::{Feed, NoMemory};
+use ac_change::{ChangeFault, change, read_changes};
 use ac_tables::{Cloud, FromTables, Sources, TableFault};
 use std::alloc::Global;
 
@@ -75,17 +79,62 @@ fn read_cloud(alloc: Global, texts: &Texts) -> Result<Cloud, TablesRefusal>
     }
 }
 
-/// Reads the tables in their order: the cloud that they state; or why not, with what stands behind that line.
+// Why changes can't be made.
+fn changes_refusal(fault: ChangeFault) -> TablesRefusal
+    ensures { (first : Option (ℕ × ChangeKind)) → TellsLine first fault
+        → ExplainsChanges first result }
+{
+    match fault {
+        ChangeFault::At { line, kind } => TablesRefusal::Changes(ChangesRefusal::At { line, kind }),
+        ChangeFault::NoMemory => TablesRefusal::NoMemory,
+    }
+}
+
+// The cloud as the changes of a text leave it.
+fn change_by(alloc: Global, cloud: &Cloud, text: &[u8]) -> Result<Cloud, TablesRefusal>
+    ensures fine { OnOk result (change_fault (Some text.now) (world_of cloud.now) ≡ None) }
+    ensures world { IfOk result (λ new. world_of new
+        ≡ changed_by (Some text.now) (world_of cloud.now)) }
+    ensures fault { IfErr result
+        (ExplainsChanges (change_fault (Some text.now) (world_of cloud.now))) }
+{
+    let changes = match read_changes(alloc, text) {
+        Ok(changes) => changes,
+        Err(fault) => return Err(changes_refusal(fault)),
+    };
+    match change(alloc, cloud, &changes) {
+        Ok(new) => Ok(new),
+        Err(fault) => Err(changes_refusal(fault)),
+    }
+}
+
+// The cloud as changes leave it, where there are some.
+fn change_cloud(alloc: Global, cloud: Cloud, changes: Option<&[u8]>) -> Result<Cloud, TablesRefusal>
+    ensures fine { OnOk result (change_fault (changes_shown changes.entry)
+        (world_of cloud) ≡ None) }
+    ensures world { IfOk result (λ new. world_of new
+        ≡ changed_by (changes_shown changes.entry) (world_of cloud)) }
+    ensures fault { IfErr result (ExplainsChanges
+        (change_fault (changes_shown changes.entry) (world_of cloud))) }
+{
+    match changes {
+        Some(text) => change_by(alloc, &cloud, text),
+        None => Ok(cloud),
+    }
+}
+
+/// Reads the tables in their order, and makes the changes: the cloud that they leave; or why not, with what stands behind that line.
 pub fn read_inputs<R: Feed>(
     alloc: Global,
     detail: Option<&Paths>,
+    changes: Option<&[u8]>,
     inputs: &mut Inputs<R>,
 ) -> Result<Cloud, Refused>
     ensures stated { IfOk result (λ cloud. (b : Bytes) → TellBytes R.remaining inputs.old b
-        → IsStated b (world_of cloud)) }
+        → IsStated (changes_shown changes.entry) b (world_of cloud)) }
     ensures fault { IfErr result (λ told. (say : World → Outcome)
         → Explains R.remaining R.failures (detail_shown detail.entry)
-        (λ b. past_tables (detail_shown detail.entry) b say)
+        (λ b. past_tables (detail_shown detail.entry) (changes_shown changes.entry) b say)
         inputs.old inputs.new (line_told told) (status_told told)) }
     ensures status { IfErr result (λ told. Contains (3 ∷ 7 ∷ []) (status_told told)) }
 {
@@ -96,10 +145,17 @@ pub fn read_inputs<R: Feed>(
             return Err(Refused::new(alloc, Refusal::Tables(refusal), text));
         }
     };
-    match read_cloud(alloc, &texts) {
-        Ok(cloud) => Ok(cloud),
+    let cloud = match read_cloud(alloc, &texts) {
+        Ok(cloud) => cloud,
         Err(refusal) => {
             let text = fault_detail(alloc, detail, &texts, &refusal);
+            return Err(Refused::new(alloc, Refusal::Tables(refusal), text));
+        }
+    };
+    match change_cloud(alloc, cloud, changes) {
+        Ok(cloud) => Ok(cloud),
+        Err(refusal) => {
+            let text = changes_detail(alloc, detail, &refusal);
             Err(Refused::new(alloc, Refusal::Tables(refusal), text))
         }
     }
@@ -124,7 +180,7 @@ pub(crate) fn make_ready<R: Feed>(
     ensures fault { IfErr result (λ told. Explains R.remaining R.failures (task_of job.now).detail
         (answer (task_of job.now)) inputs.old inputs.new (line_told told) (status_told told)) }
 {
-    let cloud = read_inputs(alloc, job.detail, inputs)?;
+    let cloud = read_inputs(alloc, job.detail, job.changes, inputs)?;
     match read_wanted(alloc, job, &cloud) {
         Ok(wanted) => match note_if_told(alloc, job.detail.is_some(), &cloud, &wanted) {
             Ok(note) => Ok(Ready {

@@ -4,6 +4,7 @@ ghost use Rattle.std.specs.Prelude.{◌≡◌};
 pub(crate) mod details;
 pub mod lines;
 
+use ac_change::ChangeKind;
 use ac_cloud::HostFault;
 use ac_query::{QueryFault, TokenFault};
 use ac_tables::{Table, TableKind};
@@ -22,8 +23,21 @@ pub enum TablesRefusal {
         row: u32,
         kind: TableKind,
     },
+    /// Why changes of the cloud can't be made.
+    Changes(ChangesRefusal),
     /// A growth was refused.
     NoMemory,
+}
+
+/// Why changes of a cloud can't be made. Lines are numbered from 1.
+#[derive(Clone, Copy, Debug, PartialEq, Eq)]
+pub enum ChangesRefusal {
+    /// Their bytes can't be had.
+    Unreadable,
+    /// They have more bytes than a table may.
+    TooLarge,
+    /// What is wrong with a line.
+    At { line: u64, kind: ChangeKind },
 }
 
 /// Why what is asked of a cloud has no answer.

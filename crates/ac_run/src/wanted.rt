@@ -73,6 +73,10 @@ pub enum Wanted {
     Comparison(Query, ServiceAnswer),
     /// What is amiss in the cloud, with an aggregate as the zone of hosts, or with none.
     Amiss(Option<Id>),
+    /// How a query is read.
+    Reading(Query),
+    /// The parameters of a query.
+    Parameters,
 }
 
 /// The query of a text, as a version reads it. Want of memory is a refusal of its own.
@@ -251,6 +255,8 @@ fn wanted_of(alloc: Global, job: &Job, cloud: &Cloud, query: Query) -> Result<Wa
             Ok(Wanted::Comparison(query, read_compared(alloc, answer)?))
         }
         Command::Audit { zone } => Ok(Wanted::Amiss(zone_named(zone))),
+        Command::Query => Ok(Wanted::Reading(query)),
+        Command::Parameters => Ok(Wanted::Parameters),
     }
 }
 
@@ -274,6 +280,7 @@ pub fn read_wanted(alloc: Global, job: &Job, cloud: &Cloud) -> Result<Wanted, As
             Ok(Wanted::Capacity(plans, metrics))
         }
         Command::Audit { zone } => Ok(Wanted::Amiss(zone_named(zone))),
+        Command::Parameters => Ok(Wanted::Parameters),
         _ => {
             let query = read_query(alloc, job.query, job.version)?;
             Ok(wanted_of(alloc, job, cloud, query)?)

@@ -330,6 +330,8 @@ fn with_text<'a>(command: Command<'static>, text: Option<&'a str>) -> Command<'a
         Command::Capacity { flavors, metrics } => Command::Capacity { flavors, metrics },
         Command::Compare { answer } => Command::Compare { answer },
         Command::Audit { zone } => Command::Audit { zone },
+        Command::Query => Command::Query,
+        Command::Parameters => Command::Parameters,
     }
 }
 
@@ -351,6 +353,7 @@ fn left_by(rt: &(impl Abort + AllocGlobal), case: &Case, turns: Turns) -> Result
         query: query.as_str(),
         version: case.version,
         tries: None,
+        changes: None,
         detail: if turns.detail { Some(&PATHS) } else { None },
     };
     run_over(alloc, &case.rows, &job, turns)

@@ -78,6 +78,7 @@ fn run_texts(alloc: Global, texts: &Texts, turns: Turns) -> Result<Left, AllocEr
         Version::V139,
         None,
         detail,
+        None,
         &mut inputs,
         &mut lines,
         out,

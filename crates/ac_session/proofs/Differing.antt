@@ -22,7 +22,7 @@ use Rattle.ac_query.specs.Pairs.{pairs_of}
 use Rattle.ac_query.specs.declared.version.Version.{Version}
 use Rattle.ac_rules.specs.Claims.{claimed, moved, released}
 use Rattle.ac_rules.specs.Placed.{Placed, assigned}
-use Rattle.ac_session.specs.Held.{Claim, Held, Mark, marked}
+use Rattle.ac_session.specs.Held.{Claim, Held, Mark}
 use Rattle.ac_session.proofs.UsageRows.Checks.{apart_of}
 use Rattle.ac_session.specs.Laws.{MarksStay, held_behind}
 use Rattle.ac_session.specs.Lines.{Given, line, too_long, end}

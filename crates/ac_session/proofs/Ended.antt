@@ -11,8 +11,9 @@ use Rattle.ac_run.proofs.Attempted.{in_world}
 use Rattle.ac_query.specs.Asked.{Asked as Query}
 use Rattle.ac_report.specs.Findings.Explanation.Candidates.{ExplanationMayStop}
 use Rattle.ac_run.proofs.Told.{ends_answered, ends_tables}
-use Rattle.ac_run.specs.Answer.{Outcome, past_tables, size_refused, table_refused, told, written}
+use Rattle.ac_run.specs.Answer.{Outcome, past_tables, told, written}
 use Rattle.ac_run.specs.Feeds.{Bytes, FeedRose, TellBytes, too_large}
+use Rattle.ac_run.specs.Changing.{change_fault, world_in}
 use Rattle.ac_run.specs.Wanted.Given.{tables_in}
 use Rattle.ac_run.specs.Lines.{memory_line, output_line}
 use Rattle.ac_run.specs.Run.{Ends, Explains, FailsOr, IsAnswered, IsRefused, IsStated, IsUnread}
@@ -31,7 +32,6 @@ use Rattle.ac_session.specs.declared.session.Stop.{Stop}
 use Rattle.ac_session.specs.declared.session.Stop.TheVariants as stop
 use Rattle.ac_tables.specs.Tables.{tables_fault, world_stated}
 use Rattle.ac_tables.specs.declared.fault.Table.{Table}
-use Rattle.ac_tables.specs.declared.fault.TableFault.{TableFault}
 use Rattle.ac_tables.specs.declared.read.FiveTables.{FiveTables}
 
 -- ---- statuses
@@ -101,6 +101,8 @@ search_none (command.why host) version all asked may = may
 search_none (command.capacity flavors metrics) version all asked may = may.2
 search_none (command.compare answer) version all asked may = may
 search_none (command.audit _) version all asked may = may
+search_none command.reading version all asked may = may
+search_none command.parameters version all asked may = may
 
 asked_none : (version : Version) (held : Held) (asked : Asked) → AskedMayStop None version held asked → ⊥
 asked_none version held (job task) may = search_none task.command task.version held.world.providers _ may.0
@@ -142,42 +144,42 @@ never_stops tries version state q none P found =
 
 -- ---- a world was stated
 
-stated : (detail : Option Paths) (version : Version) (b : Bytes) (q : List ℕ) (world : World) → IsStated b world → session_answer detail version b q ≡ held version world q
+stated : (detail : Option Paths) (made : Option (List ℕ)) (version : Version) (b : Bytes) (q : List ℕ) (world : World) → IsStated made b world → session_answer detail made version b q ≡ held version world q
 unfolding session_answer
-stated detail version b q world = in_world detail b (λ world. held version world q) world
+stated detail made version b q world = in_world detail made b (λ world. held version world q) world
 
-module _ (tries : Option ℕ) (detail : Option Paths) (version : Version) (b : Bytes) (q : List ℕ) (world : World) (is : IsStated b world) where
+module _ (tries : Option ℕ) (detail : Option Paths) (made : Option (List ℕ)) (version : Version) (b : Bytes) (q : List ℕ) (world : World) (is : IsStated made b world) where
   -- what may be written of its questions is said of the bytes
   stated_with : (P : Outcome → Type 0) → WithStops tries version (unnamed world) q (λ text. P (written text 0))
-      → (stops : List (Option (List ℕ))) × AreStops tries version (unnamed (world_stated (tables_in b))) stops (lines_in q) × P (session_answer_with detail version b stops q)
+      → (stops : List (Option (List ℕ))) × AreStops tries version (unnamed (world_in made b)) stops (lines_in q) × P (session_answer_with detail made version b stops q)
   unfolding session_answer_with
   stated_with P found = (
     found.0,
     subst (λ w. AreStops tries version (unnamed w) found.0 (lines_in q)) is.states found.1,
-    subst P (sym (in_world detail b (λ world. held_with version world found.0 q) world is)) found.2,
+    subst P (sym (in_world detail made b (λ world. held_with version world found.0 q) world is)) found.2,
   )
 
   pub answered_with : (a c e f : Option (List ℕ)) (n : ℕ) → WithStops tries version (unnamed world) q (λ text. IsAnswered (written text 0) a c e f n)
-      → (stops : List (Option (List ℕ))) × AreStops tries version (unnamed (world_stated (tables_in b))) stops (lines_in q)
-      × IsAnswered (session_answer_with detail version b stops q) a c e f n
+      → (stops : List (Option (List ℕ))) × AreStops tries version (unnamed (world_in made b)) stops (lines_in q)
+      × IsAnswered (session_answer_with detail made version b stops q) a c e f n
   answered_with a c e f n = stated_with (λ o. IsAnswered o a c e f n)
 
   pub part_with : (a c : Option (List ℕ)) → WithStops tries version (unnamed world) q (λ text. IsFirstPart (append_known a text) c)
-      → (stops : List (Option (List ℕ))) × AreStops tries version (unnamed (world_stated (tables_in b))) stops (lines_in q)
-      × IsFirstPart (append_known a (session_answer_with detail version b stops q).output) c
+      → (stops : List (Option (List ℕ))) × AreStops tries version (unnamed (world_in made b)) stops (lines_in q)
+      × IsFirstPart (append_known a (session_answer_with detail made version b stops q).output) c
   part_with a c = stated_with (λ o. IsFirstPart (append_known a o.output) c)
 
   -- and whole, without a number of tries
   pub answered_whole : tries ≡ None → (a c e f : Option (List ℕ)) (n : ℕ) → WithStops tries version (unnamed world) q (λ text. IsAnswered (written text 0) a c e f n)
-      → IsAnswered (session_answer detail version b q) a c e f n
+      → IsAnswered (session_answer detail made version b q) a c e f n
   answered_whole none a c e f n found =
-      subst (λ o. IsAnswered o a c e f n) (sym (stated detail version b q world is))
+      subst (λ o. IsAnswered o a c e f n) (sym (stated detail made version b q world is))
       (never_stops tries version (unnamed world) q none (λ text. IsAnswered (written text 0) a c e f n) found)
 
   pub part_whole : tries ≡ None → (a c : Option (List ℕ)) → WithStops tries version (unnamed world) q (λ text. IsFirstPart (append_known a text) c)
-      → IsFirstPart (append_known a (session_answer detail version b q).output) c
+      → IsFirstPart (append_known a (session_answer detail made version b q).output) c
   part_whole none a c found =
-      subst (λ o. IsFirstPart (append_known a o.output) c) (sym (stated detail version b q world is))
+      subst (λ o. IsFirstPart (append_known a o.output) c) (sym (stated detail made version b q world is))
       (never_stops tries version (unnamed world) q none (λ text. IsFirstPart (append_known a text) c) found)
 
 -- the questions are at their end
@@ -186,41 +188,41 @@ is_held a c err text h = record { output = h; line = none_added err [] refl; sta
 
 -- ---- the tables are refused
 
+-- what is said of a fault is the same, whatever would be said otherwise
+told_same : {X : Type 0} (fault : Option X) (say : X → Outcome) (one other : Outcome) → (3 ≤ one.status → one ≡ other) → 3 ≤ (told fault say one).status
+    → told fault say one ≡ told fault say other
+told_same None say one other same high = same high
+told_same (Some x) say one other same high = refl
+
 -- whatever would be said of their world
-any_said : (detail : Option Paths) (b : Bytes) (say other : World → Outcome) → ((world : World) → (say world).status ≡ 0) → 3 ≤ (past_tables detail b say).status
-    → past_tables detail b say ≡ past_tables detail b other
-any_said detail b say other answers = by (too_large b) (tables_fault (tables_in b))
-  where
-    past : Option Table → Option TableFault → (World → Outcome) → Outcome
-    past large fault say = told large (size_refused detail) (told fault (table_refused detail (tables_in b)) (say (world_stated (tables_in b))))
+any_said : (detail : Option Paths) (made : Option (List ℕ)) (b : Bytes) (say other : World → Outcome) → ((world : World) → (say world).status ≡ 0)
+    → 3 ≤ (past_tables detail made b say).status → past_tables detail made b say ≡ past_tables detail made b other
+any_said detail made b say other answers =
+    told_same (too_large b) _ _ _ (told_same (tables_fault (tables_in b)) _ _ _ (told_same (change_fault made (world_stated (tables_in b))) _ _ _
+    (λ high. absurd (omega (arith, high, answers (world_in made b))))))
 
-    by : (large : Option Table) (fault : Option TableFault) → 3 ≤ (past large fault say).status → past large fault say ≡ past large fault other
-    by (Some t) fault high = refl
-    by None (Some f) high = refl
-    by None None high = absurd (omega (arith, high, answers (world_stated (tables_in b))))
-
-module _ {R : Type 0} (remaining : R → Option (List ℕ)) (failures : R → ℕ) (detail : Option Paths) (version : Version) (from to : FiveTables R) (line : List ℕ) (status : ℕ)
-    (why : (say : World → Outcome) → Explains remaining failures detail (λ b. past_tables detail b say) from to line status)
+module _ {R : Type 0} (remaining : R → Option (List ℕ)) (failures : R → ℕ) (detail : Option Paths) (made : Option (List ℕ)) (version : Version) (from to : FiveTables R) (line : List ℕ) (status : ℕ)
+    (why : (say : World → Outcome) → Explains remaining failures detail (λ b. past_tables detail made b say) from to line status)
     (err_old err_new : Option (List ℕ)) (before after : ℕ) (told : TakesLine err_old err_new before after line) where
-  ends : (q : List ℕ) (out : Option (List ℕ)) (n : ℕ) → Ends remaining failures detail (λ b. session_answer detail version b q) (λ b. ⊥) from to line status ⊤ out out n n
+  ends : (q : List ℕ) (out : Option (List ℕ)) (n : ℕ) → Ends remaining failures detail (λ b. session_answer detail made version b q) (λ b. ⊥) from to line status ⊤ out out n n
   unfolding session_answer
   ends q out n = inl (tt, why (λ world. held version world q))
 
-  any_questions : (b : Bytes) (q : List ℕ) → status ≡ 3 → IsRefused (session_answer detail version b []) err_old err_new before after status
-      → IsRefused (session_answer detail version b q) err_old err_new before after status
+  any_questions : (b : Bytes) (q : List ℕ) → status ≡ 3 → IsRefused (session_answer detail made version b []) err_old err_new before after status
+      → IsRefused (session_answer detail made version b q) err_old err_new before after status
   unfolding session_answer
   any_questions b q three this =
       subst (λ o. IsRefused o err_old err_new before after status)
-      (any_said detail b (λ world. held version world []) (λ world. held version world q) (λ world. refl) (omega (arith, three, this.status))) this
+      (any_said detail made b (λ world. held version world []) (λ world. held version world q) (λ world. refl) (omega (arith, three, this.status))) this
 
   pub unread : status ≡ 3 → (failed : Option Table) × FailsOr (λ t. IsUnread (FeedRose failures from to t) detail t err_old err_new before after)
-      ((b : Bytes) → TellBytes remaining from b → (q : List ℕ) → IsRefused (session_answer detail version b q) err_old err_new before after status) failed
-  unread three = by (ends_tables remaining failures detail (λ b. session_answer detail version b []) (λ b. ⊥) from to line status ⊤ None None (λ _. refl) 0 0 (ends [] None 0) err_old err_new before after told three)
+      ((b : Bytes) → TellBytes remaining from b → (q : List ℕ) → IsRefused (session_answer detail made version b q) err_old err_new before after status) failed
+  unread three = by (ends_tables remaining failures detail (λ b. session_answer detail made version b []) (λ b. ⊥) from to line status ⊤ None None (λ _. refl) 0 0 (ends [] None 0) err_old err_new before after told three)
     where
       by : (failed : Option Table) × FailsOr (λ t. IsUnread (FeedRose failures from to t) detail t err_old err_new before after)
-          ((b : Bytes) → TellBytes remaining from b → IsRefused (session_answer detail version b []) err_old err_new before after status) failed
+          ((b : Bytes) → TellBytes remaining from b → IsRefused (session_answer detail made version b []) err_old err_new before after status) failed
           → (failed : Option Table) × FailsOr (λ t. IsUnread (FeedRose failures from to t) detail t err_old err_new before after)
-          ((b : Bytes) → TellBytes remaining from b → (q : List ℕ) → IsRefused (session_answer detail version b q) err_old err_new before after status) failed
+          ((b : Bytes) → TellBytes remaining from b → (q : List ℕ) → IsRefused (session_answer detail made version b q) err_old err_new before after status) failed
       by (Some t, this) = (Some t, this)
       by (None, this) = (None, λ b tell q. any_questions b q three (this b tell))
 
@@ -232,19 +234,19 @@ module _ {R : Type 0} (remaining : R → Option (List ℕ)) (failures : R → �
 
   -- where no device failed
   pub refused_whole : status ≢ 7 → status ≢ 8 → ((t : Table) → FeedRose failures from to t → ⊥) → (n : ℕ) → (Rises n n → ⊥) → (Rises before after → ⊥)
-      → (out : Option (List ℕ)) (b : Bytes) → TellBytes remaining from b → (q : List ℕ) → IsAnswered (session_answer detail version b q) out out err_old err_new status
+      → (out : Option (List ℕ)) (b : Bytes) → TellBytes remaining from b → (q : List ℕ) → IsAnswered (session_answer detail made version b q) out out err_old err_new status
   refused_whole seven eight feeds n output whole out b tell q =
-      ends_answered remaining failures detail (λ b. session_answer detail version b q) (λ b. ⊥) from to line status ⊤ out out (λ _. refl) n n (ends q out n)
+      ends_answered remaining failures detail (λ b. session_answer detail made version b q) (λ b. ⊥) from to line status ⊤ out out (λ _. refl) n n (ends q out n)
       err_old err_new before after told seven eight feeds output whole b tell
 
 -- no line is answered, and no search stopped
-module _ (tries : Option ℕ) (detail : Option Paths) (version : Version) (b : Bytes) (q : List ℕ) where
-  pub refused_with : (a c e f : Option (List ℕ)) (n : ℕ) → IsAnswered (session_answer detail version b q) a c e f n
-      → (stops : List (Option (List ℕ))) × AreStops tries version (unnamed (world_stated (tables_in b))) stops (lines_in q)
-      × IsAnswered (session_answer_with detail version b stops q) a c e f n
+module _ (tries : Option ℕ) (detail : Option Paths) (made : Option (List ℕ)) (version : Version) (b : Bytes) (q : List ℕ) where
+  pub refused_with : (a c e f : Option (List ℕ)) (n : ℕ) → IsAnswered (session_answer detail made version b q) a c e f n
+      → (stops : List (Option (List ℕ))) × AreStops tries version (unnamed (world_in made b)) stops (lines_in q)
+      × IsAnswered (session_answer_with detail made version b stops q) a c e f n
   unfolding session_answer session_answer_with
   refused_with a c e f n said = ([], tt, said)
 
-  pub refused_part : (a : Option (List ℕ)) → (stops : List (Option (List ℕ))) × AreStops tries version (unnamed (world_stated (tables_in b))) stops (lines_in q)
-      × IsFirstPart (append_known a (session_answer_with detail version b stops q).output) a
-  refused_part a = ([], tt, first_none a (session_answer_with detail version b [] q).output)
+  pub refused_part : (a : Option (List ℕ)) → (stops : List (Option (List ℕ))) × AreStops tries version (unnamed (world_in made b)) stops (lines_in q)
+      × IsFirstPart (append_known a (session_answer_with detail made version b stops q).output) a
+  refused_part a = ([], tt, first_none a (session_answer_with detail made version b [] q).output)

@@ -70,6 +70,8 @@ not_refused (wanted.Why query host) tries world may = refl
 not_refused (wanted.Capacity plans metrics) tries world may = refl
 not_refused (wanted.Comparison query answer) tries world may = refl
 not_refused (wanted.Amiss _) tries world may = absurd may
+not_refused (wanted.Reading query) tries world may = absurd may
+not_refused wanted.Parameters tries world may = absurd may
 
 pub query_refused : (version : Version) (query : List ℕ) (refusal : AskRefusal) → ExplainsQuery (query_fault version query) refusal
     → (say : Says) (token : Option (List ℕ)) → IsRefusal refusal (past_query say token version query)

@@ -14,16 +14,16 @@ use Rattle.ac_session.specs.Turns.{lines_in, session_text}
 abbrev pub held : Version → World → List ℕ → Outcome
 held version world questions = written (session_text version (unnamed world) (lines_in questions)) 0
 
--- the answer of a session over the bytes of five tables
-unfoldable pub session_answer : Option Paths → Version → Bytes → List ℕ → Outcome
-session_answer detail version b questions = past_tables detail b (λ world. held version world questions)
+-- the answer of a session over the bytes of five tables, and what changes leave of them
+unfoldable pub session_answer : Option Paths → Option (List ℕ) → Version → Bytes → List ℕ → Outcome
+session_answer detail changes version b questions = past_tables detail changes b (λ world. held version world questions)
 
 -- the same, where the searches of some lines stopped
 abbrev pub held_with : Version → World → List (Option (List ℕ)) → List ℕ → Outcome
 held_with version world stops questions = written (text_with version (unnamed world) stops (lines_in questions)) 0
 
-unfoldable pub session_answer_with : Option Paths → Version → Bytes → List (Option (List ℕ)) → List ℕ → Outcome
-session_answer_with detail version b stops questions = past_tables detail b (λ world. held_with version world stops questions)
+unfoldable pub session_answer_with : Option Paths → Option (List ℕ) → Version → Bytes → List (Option (List ℕ)) → List ℕ → Outcome
+session_answer_with detail changes version b stops questions = past_tables detail changes b (λ world. held_with version world stops questions)
 
 -- why the questions can't be had
 unfoldable pub questions_line : List ℕ

@@ -241,6 +241,7 @@ fn job<'a>(command: Command<'a>, query: &'a str, version: Version) -> Question<'
         query,
         version,
         tries: None,
+        changes: None,
         detail: None,
     })
 }

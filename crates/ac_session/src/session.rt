@@ -5,12 +5,12 @@ ghost use Rattle.ac_base.specs.Writing.{TakesLine};
 ghost use Rattle.ac_base.specs.Devices.{Rises};
 ghost use Rattle.ac_base.specs.Gathered.{IsFirstPart};
 ghost use Rattle.ac_cloud.specs.Cloud.CloudWorld.{world_of};
+ghost use Rattle.ac_run.specs.Changing.{world_in};
 ghost use Rattle.ac_run.specs.Answer.{written};
 ghost use Rattle.ac_run.specs.Feeds.{Bytes, FeedRose, TellBytes};
 ghost use Rattle.ac_run.specs.Lines.{memory_line, output_line};
 ghost use Rattle.ac_run.specs.Run.{FailsOr, IsAnswered, IsRefused, IsUnread};
-ghost use Rattle.ac_run.specs.Tasks.{detail_shown};
-ghost use Rattle.ac_run.specs.Wanted.Given.{tables_in};
+ghost use Rattle.ac_run.specs.Tasks.{changes_shown, detail_shown};
 ghost use Rattle.ac_session.specs.Escapes.{begun};
 ghost use Rattle.ac_session.specs.Frames.{lines_written};
 ghost use Rattle.ac_session.specs.Held.{held_of, unnamed};
@@ -23,7 +23,6 @@ ghost use Rattle.ac_session.specs.Turns.{lines_in, session_text};
 ghost use Rattle.ac_session.specs.declared.endings.AnswerFault.TheVariants as AnswerFault;
 ghost use Rattle.ac_session.specs.declared.session.Step.TheVariants as Step;
 ghost use Rattle.ac_session.specs.declared.session.Stop.TheVariants as Stop;
-ghost use Rattle.ac_tables.specs.Tables.{world_stated};
 ghost use Rattle.ac_tables.specs.declared.fault.Table.{Table};
 
 use crate::endings::{AnswerFault, Ending, end_answer};
@@ -243,8 +242,8 @@ fn hold<Q: Feed, W: Sink + Drop, E: Sink>(
     }
 }
 
-/// Runs a session: reads the tables in their order, then one line of questions after another, and hands on each answer before the next line is read.
-/// Where the tables' paths are given, what is to be done is told behind the line of tables that are refused. Answers the status and the output sink.
+/// Runs a session: reads the tables in their order, and makes the changes, then one line of questions after another, and hands on each answer before the next line is read.
+/// Where the tables' paths are given, what is to be done is told behind the line of tables or changes that are refused. Answers the status and the output sink.
 ///
 /// Each search that a question makes may make so many tries; without a number, as many as it takes. Where it stops, a first part of the output is written,
 /// and that ends with 8: nothing changes then, and the session goes on.
@@ -256,6 +255,7 @@ pub fn run_session<R: Feed, Q: Feed, W: Sink + Drop, E: Sink>(
     version: Version,
     tries: Option<u64>,
     detail: Option<&Paths>,
+    changes: Option<&[u8]>,
     inputs: &mut Inputs<R>,
     lines: &mut Lines<Q>,
     out: W,
@@ -270,9 +270,11 @@ pub fn run_session<R: Feed, Q: Feed, W: Sink + Drop, E: Sink>(
         → (b : Bytes) → TellBytes R.remaining inputs.old b
         → (q : List ℕ) → left Q.remaining lines.old ≡ Some q → length q < most_passed
         → (stops : List (Option (List ℕ)))
-        × AreStops tries version (unnamed (world_stated (tables_in b))) stops (lines_in q)
-        × IsAnswered (session_answer_with (detail_shown detail.entry) version b stops q)
-        (W.taken out) (W.taken result.1) (E.taken err.old) (E.taken err.new) result.0 }
+        × AreStops tries version (unnamed (world_in (changes_shown changes.entry) b)) stops
+        (lines_in q)
+        × IsAnswered (session_answer_with (detail_shown detail.entry)
+        (changes_shown changes.entry) version b stops q) (W.taken out) (W.taken result.1)
+        (E.taken err.old) (E.taken err.new) result.0 }
 
     // The same without a number of tries: no search stops.
     ensures answered { tries ≡ None → result.0 ≢ 7
@@ -282,21 +284,23 @@ pub fn run_session<R: Feed, Q: Feed, W: Sink + Drop, E: Sink>(
         → (Rises (E.failures err.old) (E.failures err.new) → ⊥)
         → (b : Bytes) → TellBytes R.remaining inputs.old b
         → (q : List ℕ) → left Q.remaining lines.old ≡ Some q → length q < most_passed
-        → IsAnswered (session_answer (detail_shown detail.entry) version b q) (W.taken out)
-        (W.taken result.1) (E.taken err.old) (E.taken err.new) result.0 }
+        → IsAnswered (session_answer (detail_shown detail.entry) (changes_shown changes.entry)
+        version b q) (W.taken out) (W.taken result.1) (E.taken err.old) (E.taken err.new) result.0 }
 
     // Whatever the devices do: what each status says.
     ensures written_within { result.0 ≡ 0 → (b : Bytes) → TellBytes R.remaining inputs.old b
         → (q : List ℕ) → left Q.remaining lines.old ≡ Some q → length q < most_passed
         → (stops : List (Option (List ℕ)))
-        × AreStops tries version (unnamed (world_stated (tables_in b))) stops (lines_in q)
-        × IsAnswered (session_answer_with (detail_shown detail.entry) version b stops q)
-        (W.taken out) (W.taken result.1) (E.taken err.old) (E.taken err.new) result.0 }
+        × AreStops tries version (unnamed (world_in (changes_shown changes.entry) b)) stops
+        (lines_in q)
+        × IsAnswered (session_answer_with (detail_shown detail.entry)
+        (changes_shown changes.entry) version b stops q) (W.taken out) (W.taken result.1)
+        (E.taken err.old) (E.taken err.new) result.0 }
     ensures written { tries ≡ None → result.0 ≡ 0
         → (b : Bytes) → TellBytes R.remaining inputs.old b
         → (q : List ℕ) → left Q.remaining lines.old ≡ Some q → length q < most_passed
-        → IsAnswered (session_answer (detail_shown detail.entry) version b q) (W.taken out)
-        (W.taken result.1) (E.taken err.old) (E.taken err.new) result.0 }
+        → IsAnswered (session_answer (detail_shown detail.entry) (changes_shown changes.entry)
+        version b q) (W.taken out) (W.taken result.1) (E.taken err.old) (E.taken err.new) result.0 }
     ensures unread { result.0 ≡ 3
         → AreUnread (Rises (Q.failures (feed_in lines.old)) (Q.failures (feed_in lines.new)))
         (E.taken err.old) (E.taken err.new) (E.failures err.old) (E.failures err.new)
@@ -305,8 +309,9 @@ pub fn run_session<R: Feed, Q: Feed, W: Sink + Drop, E: Sink>(
         (detail_shown detail.entry) t (E.taken err.old) (E.taken err.new) (E.failures err.old)
         (E.failures err.new))
         ((b : Bytes) → TellBytes R.remaining inputs.old b → (q : List ℕ)
-        → IsRefused (session_answer (detail_shown detail.entry) version b q) (E.taken err.old)
-        (E.taken err.new) (E.failures err.old) (E.failures err.new) result.0)
+        → IsRefused (session_answer (detail_shown detail.entry) (changes_shown changes.entry)
+        version b q) (E.taken err.old) (E.taken err.new) (E.failures err.old)
+        (E.failures err.new) result.0)
         failed) }
     ensures output { result.0 ≡ 6 → Rises (W.failures out) (W.failures result.1)
         × TakesLine (E.taken err.old) (E.taken err.new)
@@ -316,18 +321,20 @@ pub fn run_session<R: Feed, Q: Feed, W: Sink + Drop, E: Sink>(
     ensures part_within { (b : Bytes) → TellBytes R.remaining inputs.old b
         → (q : List ℕ) → left Q.remaining lines.old ≡ Some q → length q < most_passed
         → (stops : List (Option (List ℕ)))
-        × AreStops tries version (unnamed (world_stated (tables_in b))) stops (lines_in q)
+        × AreStops tries version (unnamed (world_in (changes_shown changes.entry) b)) stops
+        (lines_in q)
         × IsFirstPart (append_known (W.taken out)
-        (session_answer_with (detail_shown detail.entry) version b stops q).output)
-        (W.taken result.1) }
+        (session_answer_with (detail_shown detail.entry) (changes_shown changes.entry) version b
+        stops q).output) (W.taken result.1) }
     ensures part { tries ≡ None → (b : Bytes) → TellBytes R.remaining inputs.old b
         → (q : List ℕ) → left Q.remaining lines.old ≡ Some q → length q < most_passed
         → IsFirstPart (append_known (W.taken out)
-        (session_answer (detail_shown detail.entry) version b q).output) (W.taken result.1) }
+        (session_answer (detail_shown detail.entry) (changes_shown changes.entry) version b
+        q).output) (W.taken result.1) }
     ensures status { Contains (0 ∷ 3 ∷ 6 ∷ 7 ∷ []) result.0 }
     ensures err_failures { E.failures err.old ≤ E.failures err.new }
 {
-    match read_inputs(alloc, detail, inputs) {
+    match read_inputs(alloc, detail, changes, inputs) {
         Ok(cloud) => hold(alloc, version, tries, cloud, lines, out, err),
         Err(refused) => (tell(err, &refused), out),
     }

@@ -108,6 +108,7 @@ needs_words name.Why s = needs (codes "query") s && needs (codes "host") s
 needs_words name.Capacity s = needs (codes "flavors") s
 needs_words name.Compare s = needs (codes "query") s && needs (codes "answer") s
 needs_words name.Audit s = true
+needs_words name.Query s = true
 needs_words name.Session s = true
 needs_words _ s = needs (codes "query") s
 
@@ -175,6 +176,7 @@ module _ (s : Shape) (words : List Text) (kept : list_all asks_or_takes s.rules 
   words-given name.Audit n = refl
   words-given name.Compare n = answer-given n
   words-given name.Capacity n = flavors-given (first_of (codes "flavors") rows) _ (level-entry s words (codes "flavors") kept n e)
+  words-given name.Query n = refl
   words-given name.Session n = refl
 
 level-complete : (s : Shape) (words : List Text) → is_served s ≡ true → level_fault s [] nothing_held words false [] ≡ []

@@ -18,12 +18,13 @@ name_text name.Why = codes "why"
 name_text name.Capacity = codes "capacity"
 name_text name.Compare = codes "compare"
 name_text name.Audit = codes "audit"
+name_text name.Query = codes "query"
 name_text name.Session = codes "session"
 
 abbrev pub all_names : List Name
 all_names =
     name.Check ∷ name.Candidates ∷ name.Tokens ∷ name.List ∷ name.Fill ∷ name.Verify ∷ name.Explain ∷ name.Hosts ∷ name.Why ∷ name.Capacity ∷ name.Compare ∷ name.Audit
-    ∷ name.Session ∷ []
+    ∷ name.Query ∷ name.Session ∷ []
 
 -- the name that is written so, where it is one
 unfoldable pub name_read : List ℕ → Option Name

@@ -14,7 +14,7 @@ use Rattle.clap.specs.declared.error.kind.ErrorKind.TheVariants.{ArgumentConflic
 use Rattle.ac_base.specs.Texts.{count_value, id_value}
 use Rattle.ac_query.specs.declared.version.Version.{Version}
 use Rattle.ac_query.specs.declared.version.Version.TheVariants.{V136, V139}
-use Rattle.ac_run.specs.Tasks.{Command, Paths, Task, check, candidates, tokens, list, fill, verify, explain, hosts, why, capacity, compare, audit, command_shown}
+use Rattle.ac_run.specs.Tasks.{Command, Paths, Task, check, candidates, tokens, list, fill, verify, explain, hosts, why, capacity, compare, audit, parameters, reading, command_shown}
 use Rattle.ac_tables.specs.Tables.Names.{table_name}
 use Rattle.ac_tables.specs.declared.fault.Table.{Table}
 use Rattle.ac_tables.specs.declared.fault.Table.TheVariants.{Providers, Inventories, Usages, Traits, Aggregates}
@@ -35,6 +35,10 @@ use Rattle.ac_words.specs.declared.words.WordFault.TheVariants as fault
 abbrev pub word_rule : Text → Rule
 word_rule name = record (new_rule name) { required = true; value_names = 1 }
 
+-- a word that may be left out
+abbrev pub free_rule : Text → Rule
+free_rule name = record (new_rule name) { value_names = 1 }
+
 -- an option `--NAME VALUE`
 abbrev pub option_rule : Text → Rule
 option_rule name = record (new_rule name) { long = Some name; value_names = 1 }
@@ -50,13 +54,25 @@ with_tables app =
     (option_rule (codes "tables"))) (option_rule (codes "providers"))) (option_rule (codes "inventories")))
     (option_rule (codes "usages"))) (option_rule (codes "traits"))) (option_rule (codes "aggregates"))
 
--- the options of every command: those of the tables, and whether more is said
-abbrev pub with_common : App → App
-with_common app = with_rule (with_tables app) (flag_rule (codes "detail"))
+-- whether more is said
+abbrev pub with_detail : App → App
+with_detail app = with_rule app (flag_rule (codes "detail"))
 
--- the options of a command with queries: those of every command, and the version
+-- the file of changes
+abbrev pub with_change : App → App
+with_change app = with_rule app (option_rule (codes "change"))
+
+-- the options of a command over tables: those of the tables, what is changed of them, and whether more is said
+abbrev pub with_common : App → App
+with_common app = with_detail (with_change (with_tables app))
+
+-- the version that reads queries
+abbrev pub with_version : App → App
+with_version app = with_rule app (option_rule (codes "microversion"))
+
+-- the options of a command with queries: those of a command over tables, and the version
 abbrev pub with_options : App → App
-with_options app = with_rule (with_common app) (option_rule (codes "microversion"))
+with_options app = with_version (with_common app)
 
 -- the options of a command that searches: those of a command with queries, and how many tries a search may make
 abbrev pub with_tries : App → App
@@ -111,6 +127,10 @@ compare_app = with_tries (with_rule (query_app (codes "compare")) (word_rule (co
 abbrev pub audit_app : App
 audit_app = with_rule (with_common (new_app (codes "audit"))) (option_rule (codes "zone"))
 
+-- how a query is read, which no table has to do with; without one, the parameters
+abbrev pub reading_app : App
+reading_app = with_version (with_detail (with_rule (new_app (codes "query")) (free_rule (codes "query"))))
+
 -- a session, which reads its queries later
 abbrev pub session_app : App
 session_app = with_tries (new_app (codes "session"))
@@ -129,6 +149,7 @@ app_for name.Why = why_app
 app_for name.Capacity = capacity_app
 app_for name.Compare = compare_app
 app_for name.Audit = audit_app
+app_for name.Query = reading_app
 app_for name.Session = session_app
 
 -- what has a version, and needs one of its own commands
@@ -138,8 +159,8 @@ as_program app = record app { top = record app.top { has_version = true; subcomm
 abbrev pub program : App
 program =
     with_subcommand (with_subcommand (with_subcommand (with_subcommand (with_subcommand (with_subcommand (with_subcommand (with_subcommand (with_subcommand (with_subcommand
-    (with_subcommand (with_subcommand (with_subcommand (as_program (new_app (codes "ac_cli"))) check_app.top) candidates_app.top) tokens_app.top) list_app.top)
-    fill_app.top) verify_app.top) explain_app.top) hosts_app.top) why_app.top) capacity_app.top) compare_app.top) audit_app.top) session_app.top
+    (with_subcommand (with_subcommand (with_subcommand (with_subcommand (as_program (new_app (codes "ac_cli"))) check_app.top) candidates_app.top) tokens_app.top) list_app.top)
+    fill_app.top) verify_app.top) explain_app.top) hosts_app.top) why_app.top) capacity_app.top) compare_app.top) audit_app.top) reading_app.top) session_app.top
 
 -- ---- what it states of the words
 
@@ -239,10 +260,19 @@ table_kinds rows =
     if is_some (folder_of rows) then (if list_any (has_option rows) all_tables then ArgumentConflict ∷ [] else [])
     else (if has_option rows Providers && has_option rows Inventories then [] else MissingRequiredArgument ∷ [])
 
+-- a command is about tables, unless it tells how a query is read
+abbrev pub has_tables : Name → Bool
+has_tables name.Query = false
+has_tables _ = true
+
+-- the fault of the tables, where a command is about some
+abbrev pub needed_kinds : Name → List Row → Kinds
+needed_kinds name rows = if has_tables name then table_kinds rows else []
+
 -- the fault of the version, the tries, the aggregates and the tables that are named with a command
 abbrev pub own_faults : Option (Name × List Row) → Kinds
 own_faults None = []
-own_faults (Some p) = or_else (version_kinds (version_of p.1)) (or_else (option_kinds p.1) (table_kinds p.1))
+own_faults (Some p) = or_else (version_kinds (version_of p.1)) (or_else (option_kinds p.1) (needed_kinds p.0 p.1))
 
 -- `clap` refuses them for want of memory alone, and their version, tries, aggregates and tables have no fault
 unfoldable pub is_taken : List Text → Bool
@@ -267,8 +297,15 @@ pub record Line : Type 0 where
   pub call : Call
   pub version : Version
   pub tries : Option ℕ
+  pub changes : Option Text
   pub detail : Bool
   pub paths : Paths
+
+-- whether it is about tables: how a query is read isn't, nor are the parameters
+abbrev pub is_tabled : Call → Bool
+is_tabled (job reading query) = false
+is_tabled (job parameters query) = false
+is_tabled _ = true
 
 -- the path of the file that is read beside the tables, where they ask for one: a table of flavors, or an answer of the service
 abbrev pub file_called : Call → Option Text
@@ -281,19 +318,29 @@ abbrev pub calls_answer : Call → Bool
 calls_answer (beside path query) = true
 calls_answer _ = false
 
--- the task that they ask for, with these bytes of that file, and with these paths where more is told; none where they ask for a session
-abbrev pub task_in : Line → Text → Option Paths → Option Task
-task_in line file detail = task_called line.call
+-- the task of a command and a query, with these changes, and with these paths where more is told
+abbrev pub task_for : Line → Option Text → Option Paths → Command → Text → Task
+task_for line changes detail command query =
+    record { command = command; query = query; version = line.version; tries = line.tries; changes = changes; detail = detail }
+
+-- the task that they ask for, with these bytes of that file, with these changes, and with these paths where more is told; none where they ask for a session
+abbrev pub task_in : Line → Text → Option Text → Option Paths → Option Task
+task_in line file changes detail = task_called line.call
   where
     task_called : Call → Option Task
-    task_called (plan path metrics) = Some (record { command = capacity file metrics; query = []; version = line.version; tries = line.tries; detail = detail })
-    task_called (beside path query) = Some (record { command = compare file; query = query; version = line.version; tries = line.tries; detail = detail })
-    task_called (job command query) = Some (record { command = command; query = query; version = line.version; tries = line.tries; detail = detail })
+    task_called (plan path metrics) = Some (task_for line changes detail (capacity file metrics) [])
+    task_called (beside path query) = Some (task_for line changes detail (compare file) query)
+    task_called (job command query) = Some (task_for line changes detail command query)
     task_called session = None
 
 -- a command with its query, without the path of a URL before it
 abbrev pub asking : List Row → Command → Option Call
 asking rows command = option_map (λ query. job command (past_mark query)) (first_of (codes "query") rows)
+
+-- how a query is read, where there is one; else the parameters
+abbrev pub reading_of : Option Text → Call
+reading_of None = job parameters []
+reading_of (Some query) = job reading (past_mark query)
 
 -- the token to begin after
 abbrev pub after_of : List Row → Option Text
@@ -329,6 +376,7 @@ call_of name.Why rows = option_and_then (λ host. asking rows (why host)) (first
 call_of name.Capacity rows = option_map (λ path. plan path (is_set (first_of (codes "prometheus") rows))) (first_of (codes "flavors") rows)
 call_of name.Compare rows = option_and_then (asking_beside rows) (first_of (codes "answer") rows)
 call_of name.Audit rows = Some (job (audit (first_of (codes "zone") rows)) [])
+call_of name.Query rows = Some (reading_of (first_of (codes "query") rows))
 call_of name.Session rows = Some session
 
 -- whether more is said: what to do about a fault, and of what a rule is broken; every command may be asked
@@ -368,13 +416,22 @@ paths_by None rows =
 abbrev pub paths_of : List Row → Option Paths
 paths_of rows = paths_by (folder_of rows) rows
 
+-- no paths
+abbrev pub no_paths : Paths
+no_paths = record { providers = []; inventories = []; usages = None; traits = None; aggregates = None }
+
+-- the paths of the tables, where a command is about some
+abbrev pub needed_paths : Name → List Row → Option Paths
+needed_paths name rows = if has_tables name then paths_of rows else Some no_paths
+
 -- the line has what these entries of a command say
 pub record IsMadeOf (name : Name) (rows : List Row) (line : Line) : Type 0 where
   pub call : call_of name rows ≡ Some line.call
   pub version : version_of rows ≡ Some line.version
   pub tries : tries_of rows ≡ Some line.tries
+  pub changes : first_of (codes "change") rows ≡ line.changes
   pub detail : detail_of rows ≡ line.detail
-  pub paths : paths_of rows ≡ Some line.paths
+  pub paths : needed_paths name rows ≡ Some line.paths
 
 -- the line is the command that `clap` found, with its entries
 abbrev pub Says : Option (Name × List Row) → Line → Type 0

@@ -17,10 +17,11 @@ pub enum Name {
     Capacity,
     Compare,
     Audit,
+    Query,
     Session,
 }
 
-const ALL_NAMES: [Name; 13] = [
+const ALL_NAMES: [Name; 14] = [
     Name::Check,
     Name::Candidates,
     Name::Tokens,
@@ -33,6 +34,7 @@ const ALL_NAMES: [Name; 13] = [
     Name::Capacity,
     Name::Compare,
     Name::Audit,
+    Name::Query,
     Name::Session,
 ];
 
@@ -54,6 +56,7 @@ impl Name {
             Name::Capacity => "capacity",
             Name::Compare => "compare",
             Name::Audit => "audit",
+            Name::Query => "query",
             Name::Session => "session",
         }
     }

@@ -1,8 +1,8 @@
 //! The words of a command line, read by `clap`.
 ghost use Rattle.std.specs.Prelude.{◌≡◌, IfErr, IfOk, IsTrue, OnOk, [], map, option_map, string_bytes};
-ghost use Rattle.ac_run.specs.Tasks.{detail_shown, paths_shown, task_of};
+ghost use Rattle.ac_run.specs.Tasks.{changes_shown, detail_shown, paths_shown, task_of};
 ghost use Rattle.ac_tables.specs.FiveTables.{table_in};
-ghost use Rattle.ac_words.specs.Words.{Line, Says, Tells, call_shown, calls_answer, faults, file_called, is_taken, named, paths_kept, task_in};
+ghost use Rattle.ac_words.specs.Words.{Line, Says, Tells, call_shown, calls_answer, faults, file_called, is_tabled, is_taken, named, paths_kept, task_in};
 ghost use Rattle.clap.specs.Words.{HasKind, Kinds};
 ghost use Rattle.ac_words.specs.declared.words.WordFault.TheVariants.{NoMemory};
 
@@ -37,6 +37,7 @@ pub struct Words<'a> {
     call: Call<'a>,
     version: Version,
     tries: Option<u64>,
+    changes: Option<&'a str>,
     detail: bool,
     paths: FiveTables<String>,
 }
@@ -48,17 +49,23 @@ impl<'a> Model for Words<'a> {
       call = call_shown w.call;
       version = w.version;
       tries = w.tries;
+      changes = option_map (λ t. t.now) w.changes;
       detail = w.detail;
       paths = paths_kept w.paths;
     } };
 }
 
 impl<'a> Words<'a> {
-    /// The job that the words ask for, with these bytes of the file that is read beside the tables, and with these paths where more is told; none where they
-    /// ask for a session.
-    pub fn job<'b>(&'b self, file: &'b [u8], detail: Option<&'b Paths<'b>>) -> Option<Job<'b>>
+    /// The job that the words ask for, with these bytes of the file that is read beside the tables, with these changes, and with these paths where more is
+    /// told; none where they ask for a session.
+    pub fn job<'b>(
+        &'b self,
+        file: &'b [u8],
+        changes: Option<&'b [u8]>,
+        detail: Option<&'b Paths<'b>>,
+    ) -> Option<Job<'b>>
         ensures { option_map task_of result
-            ≡ task_in self.now file.now (detail_shown detail.entry) }
+            ≡ task_in self.now file.now (changes_shown changes.entry) (detail_shown detail.entry) }
     {
         let (command, query) = match self.call {
             Call::Job(command, query) => (command, query),
@@ -74,6 +81,7 @@ impl<'a> Words<'a> {
             query,
             version: self.version,
             tries: self.tries,
+            changes,
             detail,
         })
     }
@@ -98,6 +106,16 @@ impl<'a> Words<'a> {
         }
     }
 
+    /// Whether they are about tables: how a query is read isn't, nor are the parameters.
+    pub fn is_tabled(&self) -> bool
+        ensures { result ≡ is_tabled self.now.call }
+    {
+        match self.call {
+            Call::Job(Command::Query | Command::Parameters, _) => false,
+            _ => true,
+        }
+    }
+
     /// The version that reads queries.
     pub fn version(&self) -> Version
         ensures { result ≡ self.now.version }
@@ -110,6 +128,13 @@ impl<'a> Words<'a> {
         ensures { result ≡ self.now.tries }
     {
         self.tries
+    }
+
+    /// The path of the file of changes, where one was given.
+    pub fn changes(&self) -> Option<&str>
+        ensures { option_map (λ path. path.now) result ≡ self.now.changes }
+    {
+        self.changes
     }
 
     /// Whether more is said: below the line of a fault what to do about it, of a verdict of what a rule is broken, and behind an answer where the service

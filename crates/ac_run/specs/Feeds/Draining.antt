@@ -26,6 +26,7 @@ abbrev pub ExplainsDraining : Type 0 → Type 0 → Table → TablesRefusal → 
 ExplainsDraining rose many table (tables.Unreadable t) = (t ≡ table) × rose
 ExplainsDraining rose many table (tables.TooLarge t) = (t ≡ table) × many
 ExplainsDraining rose many table (tables.Record t row k) = ⊥
+ExplainsDraining rose many table (tables.Changes f) = ⊥
 ExplainsDraining rose many table tables.NoMemory = ⊤
 
 -- the bytes that were read
@@ -43,4 +44,5 @@ abbrev pub ExplainsReading : {R : Type 0} → (R → Option (List ℕ)) → (R �
 ExplainsReading remaining failures old new (tables.Unreadable t) = FeedRose failures old new t
 ExplainsReading remaining failures old new (tables.TooLarge t) = (b : Bytes) → TellBytes remaining old b → too_large b ≡ Some t
 ExplainsReading remaining failures old new (tables.Record t row k) = ⊥
+ExplainsReading remaining failures old new (tables.Changes f) = ⊥
 ExplainsReading remaining failures old new tables.NoMemory = ⊤

@@ -1,6 +1,7 @@
 //! What stands behind the line of a refusal where more is told: what is to be done.
 ghost use Rattle.std.specs.Prelude.{◌≡◌, IfOk, None};
-ghost use Rattle.ac_run.specs.Details.{answer_remedy, asked_remedy, behind, fault_remedy, path_in, reading_remedy};
+ghost use Rattle.ac_run.specs.Changing.{change_remedy};
+ghost use Rattle.ac_run.specs.Details.{answer_remedy, asked_remedy, behind, changes_remedy, fault_remedy, path_in, reading_remedy};
 ghost use Rattle.ac_run.specs.Flavors.{why_shown};
 ghost use Rattle.ac_run.specs.Feeds.Draining.{texts_shown};
 ghost use Rattle.ac_run.specs.Feeds.{too_large};
@@ -12,8 +13,9 @@ use crate::inputs::Texts;
 use crate::job::{Job, Paths};
 use crate::ready::sources_of;
 use crate::refusal::lines::push_query_line;
-use crate::refusal::{AnswerRefusal, AskRefusal, FlavorsRefusal, TablesRefusal};
+use crate::refusal::{AnswerRefusal, AskRefusal, ChangesRefusal, FlavorsRefusal, TablesRefusal};
 use ac_base::ToWrite;
+use ac_change::ChangeKind;
 use ac_query::{Query, TokenFault};
 use ac_remedies::{
     host_remedy, query_remedy, record_remedy, size_remedy, token_remedy, unread_remedy,
@@ -76,6 +78,40 @@ pub(crate) fn fault_detail(
     }
 }
 
+// What is to be done about a fault of a change.
+#[tactic(auto, unfolding(crate::specs::Changing::change_remedy))]
+fn change_remedy(kind: ChangeKind) -> &'static [u8]
+    ensures { result.now ≡ change_remedy kind }
+{
+    match kind {
+        ChangeKind::BadLine => {
+            b"  A line is disable HOST, enable HOST, remove HOST, set WHERE CLASS FIELD VALUE, trait WHERE +NAME or aggregate WHERE +UUID, with - where it is to go; WHERE is a provider, * or in:AGGREGATE.\n"
+        }
+        ChangeKind::UnknownHost => b"  No provider has this UUID or name.\n",
+        ChangeKind::AmbiguousHost => {
+            b"  Several providers have this name; write the UUID of one.\n"
+        }
+        ChangeKind::ReservedOverTotal => b"  More would be reserved than there is.\n",
+    }
+}
+
+/// Of a fault of a change.
+pub(crate) fn changes_detail(
+    alloc: Global,
+    detail: Option<&Paths>,
+    refusal: &TablesRefusal,
+) -> Result<Vec<u8>, AllocError>
+    ensures text { IfOk result (λ text. text.items
+        ≡ behind (detail_shown detail.entry) (λ _. changes_remedy refusal.now)) }
+{
+    match (detail, refusal) {
+        (Some(_), TablesRefusal::Changes(ChangesRefusal::At { line: _, kind })) => {
+            change_remedy(*kind).to_vec(alloc)
+        }
+        _ => Ok(Vec::new(alloc)),
+    }
+}
+
 // Of a token, whose query is read again, for its slots.
 fn token_detail(alloc: Global, job: &Job, fault: TokenFault) -> Result<Vec<u8>, AllocError>
     ensures text { IfOk result (λ text.
@@ -106,7 +142,7 @@ fn answer_detail(alloc: Global, refusal: AnswerRefusal) -> Result<Vec<u8>, Alloc
 {
     match refusal {
         AnswerRefusal::BadAnswer =>
-            b"It is to be the body that the service answers GET /allocation_candidates with: JSON, with allocation_requests of 1.34 or later.\n".to_vec(
+            b"  It is to be the body that the service answers GET /allocation_candidates with: JSON, with allocation_requests of 1.34 or later.\n".to_vec(
                 alloc,
             ),
         _ => Ok(Vec::new(alloc)),

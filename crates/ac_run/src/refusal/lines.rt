@@ -1,16 +1,21 @@
 //! The lines of refusals, pushed piece by piece: they take no memory.
 ghost use Rattle.std.specs.Prelude.{◌≡◌, ◌≤◌, ◌++◌};
 ghost use Rattle.ac_query.specs.Shown.Faults.{fault_shown};
+ghost use Rattle.ac_run.specs.Changing.{change_line, change_name};
 ghost use Rattle.ac_run.specs.Flavors.{flavor_line, query_told, why_shown};
 ghost use Rattle.ac_run.specs.Lines.{answer_line, group_line, line_at, pair_line, record_line};
-ghost use Rattle.ac_run.specs.Refusals.{line_of, line_of_asked, line_of_tables, line_told, status_of, status_of_asked, status_told};
+ghost use Rattle.ac_run.specs.Refusals.{changes_line, line_of, line_of_asked, line_of_tables, line_told, status_of, status_of_asked, status_told};
 ghost use Rattle.ac_base.specs.Writing.{Pushes, TakesLine};
 
-use crate::refusal::{AnswerRefusal, AskRefusal, FlavorsRefusal, Refusal, Refused, TablesRefusal};
+use crate::refusal::{
+    AnswerRefusal, AskRefusal, ChangesRefusal, FlavorsRefusal, Refusal, Refused, TablesRefusal,
+};
 use ac_base::{Digits, Sink, WriteFailed, push_all, push_pieces};
+use ac_change::ChangeKind;
 use ac_cloud::HostFault;
 use ac_query::{QueryFault, TokenFault};
 use ac_tables::{Table, TableKind};
+use itoa::Buffer;
 
 // The line of what is wrong with a record of a table, by their names.
 fn push_line_at<E: Sink>(
@@ -109,6 +114,49 @@ fn push_whole<E: Sink>(err: &mut E, text: &[u8]) -> Result<(), WriteFailed>
     push_all(err, text)
 }
 
+// The name of what is wrong with a change.
+#[tactic(auto, unfolding(crate::specs::Changing::change_name))]
+fn change_name(kind: ChangeKind) -> &'static [u8]
+    ensures { result.now ≡ change_name kind }
+{
+    match kind {
+        ChangeKind::BadLine => b"BadLine",
+        ChangeKind::UnknownHost => b"UnknownHost",
+        ChangeKind::AmbiguousHost => b"AmbiguousHost",
+        ChangeKind::ReservedOverTotal => b"ReservedOverTotal",
+    }
+}
+
+// The line of a fault of changes.
+#[tactic(auto, unfolding(crate::specs::Changing::change_line))]
+fn push_change_line<E: Sink>(err: &mut E, line: u64, kind: ChangeKind) -> Result<(), WriteFailed>
+    ensures { Pushes E.taken E.failures err.old err.new result (change_line line kind) }
+{
+    let mut digits = Buffer::new();
+    push_pieces(
+        err,
+        &[
+            b"change: line ",
+            digits.format(line).as_bytes(),
+            b": ",
+            change_name(kind),
+            b"\n",
+        ],
+    )
+}
+
+// The line of changes that are refused.
+#[tactic(auto, unfolding(crate::specs::Changing::changes_unread_line, crate::specs::Changing::changes_large_line))]
+fn push_changes_line<E: Sink>(err: &mut E, refusal: ChangesRefusal) -> Result<(), WriteFailed>
+    ensures { Pushes E.taken E.failures err.old err.new result (changes_line refusal) }
+{
+    match refusal {
+        ChangesRefusal::Unreadable => push_whole(err, b"change: Unreadable\n"),
+        ChangesRefusal::TooLarge => push_whole(err, b"change: TooLarge\n"),
+        ChangesRefusal::At { line, kind } => push_change_line(err, line, kind),
+    }
+}
+
 // Pushes the line of tables that are refused.
 #[tactic(auto, unfolding(crate::specs::Lines::unreadable_line, crate::specs::Lines::too_large_line, crate::specs::Lines::memory_line))]
 fn push_tables_line<E: Sink>(err: &mut E, refusal: &TablesRefusal) -> Result<(), WriteFailed>
@@ -123,6 +171,7 @@ fn push_tables_line<E: Sink>(err: &mut E, refusal: &TablesRefusal) -> Result<(),
             &[table.name().as_bytes(), b": TooLarge\n"],
         ),
         TablesRefusal::Record { table, row, kind } => push_record_line(err, *table, *row, *kind),
+        TablesRefusal::Changes(refusal) => push_changes_line(err, *refusal),
         TablesRefusal::NoMemory => push_whole(err, b"out of memory\n"),
     }
 }

@@ -1,5 +1,5 @@
 //! Claims by name: a name stands for one until it is released.
-ghost use Rattle.std.specs.Prelude.{◌≡◌, None, Some, option_map};
+ghost use Rattle.std.specs.Prelude.{◌≡◌, Err, IfErr, None, Some, option_map};
 ghost use Rattle.ac_session.specs.Held.{claim_shown, held_of, named_in};
 ghost use Rattle.ac_session.specs.Standing.{IsNamed, TakesTurn, status_told};
 ghost use Rattle.ac_session.specs.Tries.{NamedPlaceMayStop};
@@ -55,7 +55,9 @@ fn name_gone(
     name: &str,
     answered: Result<Ending, AnswerFault>,
 ) -> Result<Ending, AnswerFault>
-    ensures { IsNamed name.now None answered result (named_in names.old) (named_in names.new) }
+    ensures named { IsNamed name.now None answered result (named_in names.old)
+        (named_in names.new) }
+    ensures failed { IfErr result (λ fault. answered ≡ Err fault) }
 {
     match answered {
         Ok(ending) => {

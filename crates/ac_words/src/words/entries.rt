@@ -2,9 +2,9 @@
 ghost use Rattle.std.specs.Prelude.{◌≡◌, ◌∷◌, IfErr, IfOk, OnOk, Some, [], codes, option_and_then, option_map, true};
 ghost use Rattle.ac_run.specs.Tasks.{candidates, command_shown, list, tokens};
 ghost use Rattle.clap.specs.Words.{first_of, found_of, rows_of, subcommand_rows_of};
-ghost use Rattle.ac_words.specs.Words.{IsMadeOf, Says, Tells, after_of, asking, asking_beside, at_of, call_of, call_shown, command_found, is_complete, is_set, option_kinds, own_faults, traits_of, tries_kinds, tries_named, tries_of, version_kinds, version_named, version_of, within_in, aggregate_kinds, aggregate_named, aggregate_of, aggregates_kinds};
+ghost use Rattle.ac_words.specs.Words.{IsMadeOf, Says, Tells, after_of, asking, asking_beside, at_of, call_of, call_shown, command_found, is_complete, is_set, option_kinds, own_faults, reading_of, traits_of, tries_kinds, tries_named, tries_of, version_kinds, version_named, version_of, within_in, aggregate_kinds, aggregate_named, aggregate_of, aggregates_kinds};
 
-use super::tables::paths;
+use super::tables::needed_paths;
 use super::{Call, WordFault, Words, fault_of, grammar};
 use crate::name::Name;
 use ac_base::{Id, read_count};
@@ -108,6 +108,17 @@ fn beside<'a>(entries: &ArgMatches<'a>) -> Option<Call<'a>>
     Some(Call::Beside(path, past_mark(query)))
 }
 
+// How a query is read, where there is one; else the parameters.
+fn reading<'a>(entries: &ArgMatches<'a>) -> Call<'a>
+    ensures { call_shown result
+        ≡ reading_of (first_of (codes "query") (rows_of (found_of entries.now))) }
+{
+    match entry(entries, "query") {
+        Some(query) => Call::Job(Command::Query, past_mark(query)),
+        None => Call::Job(Command::Parameters, ""),
+    }
+}
+
 // What the entries of a command call for; none where one that it needs isn't there.
 #[tactic(auto, unfolding(crate::specs::Words::call_of))]
 fn call<'a>(name: Name, entries: &ArgMatches<'a>) -> Option<Call<'a>>
@@ -145,6 +156,7 @@ fn call<'a>(name: Name, entries: &ArgMatches<'a>) -> Option<Call<'a>>
             let zone = entry(entries, "zone");
             Some(Call::Job(Command::Audit { zone }, ""))
         }
+        Name::Query => Some(reading(entries)),
         Name::Session => Some(Call::Session),
     }
 }
@@ -282,7 +294,7 @@ fn words_with<'a>(
     alloc: Global,
     name: Name,
     call: Call<'a>,
-    entries: &ArgMatches<'_>,
+    entries: &ArgMatches<'a>,
 ) -> Result<Words<'a>, WordFault>
     requires { call_of name (rows_of (found_of entries.now)) ≡ Some (call_shown call) }
     ensures entries { IfOk result (IsMadeOf name (rows_of (found_of entries.now))) }
@@ -292,12 +304,14 @@ fn words_with<'a>(
 {
     let version = version(alloc, name, entries)?;
     let tries = options(alloc, name, entries)?;
-    let paths = paths(alloc, name, entries)?;
+    let paths = needed_paths(alloc, name, entries)?;
+    let changes = entry(entries, "change");
     let detail = is_set(entries, "detail");
     Ok(Words {
         call,
         version,
         tries,
+        changes,
         detail,
         paths,
     })

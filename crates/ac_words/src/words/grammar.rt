@@ -2,7 +2,7 @@
 ghost use Rattle.std.specs.Prelude.{◌≡◌, IfOk, false};
 ghost use Rattle.clap.specs.Words.{app_of, rule_of};
 ghost use Rattle.clap.specs.declared.builder.command.Command.TheViews.{out-Command as fields_of};
-ghost use Rattle.ac_words.specs.Words.{app_for, audit_app, candidates_app, capacity_app, compare_app, check_app, explain_app, fill_app, flag_rule, hosts_app, list_app, option_rule, program, query_app, search_app, session_app, shown_app, tokens_app, verify_app, why_app, with_common, with_options, with_tables, with_tries, word_rule};
+ghost use Rattle.ac_words.specs.Words.{app_for, audit_app, candidates_app, capacity_app, compare_app, check_app, explain_app, fill_app, flag_rule, free_rule, hosts_app, list_app, option_rule, program, query_app, reading_app, search_app, session_app, shown_app, tokens_app, verify_app, why_app, with_change, with_common, with_detail, with_options, with_tables, with_tries, with_version, word_rule};
 
 use super::help;
 use crate::name::Name;
@@ -21,6 +21,14 @@ fn word<'a>(alloc: Global, name: &'a str, shown: &'a str, help: &'a str) -> Arg<
         .value_name(shown)
         .required(true)
         .help(help)
+}
+
+// A word that may be left out.
+fn free_word<'a>(alloc: Global, name: &'a str, shown: &'a str, help: &'a str) -> Arg<'a>
+    ensures rule { rule_of result ≡ free_rule name.entry.now }
+    ensures local { result.global ≡ false }
+{
+    Arg::new(alloc, name).value_name(shown).help(help)
 }
 
 // An option with a value.
@@ -92,28 +100,52 @@ fn add_tables<'a>(alloc: Global, command: Command<'a>) -> Result<Command<'a>, Al
     Ok(command)
 }
 
-// Adds the options of every command: those of the tables, and whether more is said.
+// Adds whether more is said.
+fn add_detail<'a>(alloc: Global, command: Command<'a>) -> Result<Command<'a>, AllocError>
+    ensures app { IfOk result (λ c. app_of c ≡ with_detail (app_of command.entry)) }
+    ensures local { (fields_of command.entry).has_globals ≡ false
+        → IfOk result (λ c. (fields_of c).has_globals ≡ false) }
+{
+    command.arg(flag(
+        alloc,
+        "detail",
+        "Says below the line of a fault what to do about it; `verify` then also says of what a rule is broken, \
+         and `tokens`, `fill`, `hosts` and `compare` where the service may answer otherwise",
+    ))
+}
+
+// Adds the file of changes.
+fn add_change<'a>(alloc: Global, command: Command<'a>) -> Result<Command<'a>, AllocError>
+    ensures app { IfOk result (λ c. app_of c ≡ with_change (app_of command.entry)) }
+    ensures local { (fields_of command.entry).has_globals ≡ false
+        → IfOk result (λ c. (fields_of c).has_globals ≡ false) }
+{
+    command.arg(option(
+        alloc,
+        "change",
+        "FILE",
+        "What if: a change a line, made before the question: `disable HOST`, `enable HOST`, `remove HOST`, \
+         `set WHERE CLASS FIELD VALUE`, `trait WHERE +NAME`, `aggregate WHERE +UUID`",
+    ))
+}
+
+// Adds the options of a command over tables: those of the tables, what is changed of them, and whether more is said.
 fn add_common<'a>(alloc: Global, command: Command<'a>) -> Result<Command<'a>, AllocError>
     ensures app { IfOk result (λ c. app_of c ≡ with_common (app_of command.entry)) }
     ensures local { (fields_of command.entry).has_globals ≡ false
         → IfOk result (λ c. (fields_of c).has_globals ≡ false) }
 {
     let command = add_tables(alloc, command)?;
-    command.arg(flag(
-        alloc,
-        "detail",
-        "Says below the line of a fault what to do about it; `verify` then also says of what a rule is broken, \
-         and `tokens`, `fill` and `hosts` where the service may answer otherwise",
-    ))
+    let command = add_change(alloc, command)?;
+    add_detail(alloc, command)
 }
 
-// Adds the options of a command with queries: those of every command, and the version.
-fn add_options<'a>(alloc: Global, command: Command<'a>) -> Result<Command<'a>, AllocError>
-    ensures app { IfOk result (λ c. app_of c ≡ with_options (app_of command.entry)) }
+// Adds the version that reads queries.
+fn add_version<'a>(alloc: Global, command: Command<'a>) -> Result<Command<'a>, AllocError>
+    ensures app { IfOk result (λ c. app_of c ≡ with_version (app_of command.entry)) }
     ensures local { (fields_of command.entry).has_globals ≡ false
         → IfOk result (λ c. (fields_of c).has_globals ≡ false) }
 {
-    let command = add_common(alloc, command)?;
     let command = command.arg(option(
         alloc,
         "microversion",
@@ -122,6 +154,16 @@ fn add_options<'a>(alloc: Global, command: Command<'a>) -> Result<Command<'a>, A
          `in:A,B`, which asks for one of its traits, and may be repeated [default: 1.36]",
     ))?;
     Ok(command)
+}
+
+// Adds the options of a command with queries: those of a command over tables, and the version.
+fn add_options<'a>(alloc: Global, command: Command<'a>) -> Result<Command<'a>, AllocError>
+    ensures app { IfOk result (λ c. app_of c ≡ with_options (app_of command.entry)) }
+    ensures local { (fields_of command.entry).has_globals ≡ false
+        → IfOk result (λ c. (fields_of c).has_globals ≡ false) }
+{
+    let command = add_common(alloc, command)?;
+    add_version(alloc, command)
 }
 
 // Adds the options of a command that searches: those of a command with queries, and how many tries a search may make.
@@ -435,6 +477,27 @@ fn audit<'a>(alloc: Global) -> Result<Command<'a>, AllocError>
     ))
 }
 
+fn query<'a>(alloc: Global) -> Result<Command<'a>, AllocError>
+    ensures app { IfOk result (λ c. app_of c ≡ reading_app) }
+    ensures local { IfOk result (λ c. (fields_of c).has_globals ≡ false) }
+{
+    let command = Command::new(alloc, "query")
+        .about(
+            "Writes how a query is read: its slots, in the order of a token, and the query plainly",
+        )
+        .override_usage("ac_cli query [OPTIONS] [QUERY]")
+        .after_help(help::QUERY);
+    let command = command.arg(free_word(
+        alloc,
+        "query",
+        "QUERY",
+        "What is asked for, between '..' since the shell reads & ! and ? otherwise; without it, the \
+         parameters of a query are written, each with an example",
+    ))?;
+    let command = add_detail(alloc, command)?;
+    add_version(alloc, command)
+}
+
 fn session<'a>(alloc: Global) -> Result<Command<'a>, AllocError>
     ensures app { IfOk result (λ c. app_of c ≡ session_app) }
     ensures local { IfOk result (λ c. (fields_of c).has_globals ≡ false) }
@@ -468,6 +531,7 @@ pub(super) fn command<'a>(alloc: Global, name: Name) -> Result<Command<'a>, Allo
         Name::Capacity => capacity(alloc),
         Name::Compare => compare(alloc),
         Name::Audit => audit(alloc),
+        Name::Query => query(alloc),
         Name::Session => session(alloc),
     }
 }
@@ -495,6 +559,7 @@ pub(super) fn program<'a>(alloc: Global) -> Result<Command<'a>, AllocError>
     let command = command.subcommand(capacity(alloc)?)?;
     let command = command.subcommand(compare(alloc)?)?;
     let command = command.subcommand(audit(alloc)?)?;
+    let command = command.subcommand(query(alloc)?)?;
     let command = command.subcommand(session(alloc)?)?;
     Ok(command)
 }

@@ -123,6 +123,17 @@ pub(super) const AUDIT: &str = below!(
     "  ac_cli audit --tables cloud"
 );
 
+pub(super) const QUERY: &str = "\
+Exit status:
+  0  the query or the parameters are written
+  2  the command line was refused
+  4  the query was refused
+  6  a write failed
+  7  out of memory
+
+Example, with no tables:
+  ac_cli query 'resources=VCPU:2,DISK_GB:20&required=!CUSTOM_OLD'";
+
 pub(super) const SESSION: &str = below!(
     "  0  the questions are at their end\n",
     "  3  a table was refused, or a table or the questions could not be read\n",

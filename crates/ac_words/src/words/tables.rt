@@ -2,7 +2,7 @@
 ghost use Rattle.std.specs.Prelude.{◌≡◌, ◌∷◌, IfErr, IfOk, OnOk, Some, [], option_map, string_bytes};
 ghost use Rattle.std.specs.List.{list_any};
 ghost use Rattle.clap.specs.Words.{found_of, rows_of};
-ghost use Rattle.ac_words.specs.Words.{Tells, all_tables, has_option, option_of, path_in, paths_in, paths_kept, paths_of, paths_said, table_kinds};
+ghost use Rattle.ac_words.specs.Words.{Tells, all_tables, has_option, has_tables, needed_kinds, needed_paths, no_paths, option_of, path_in, paths_in, paths_kept, paths_of, paths_said, table_kinds};
 ghost use Rattle.clap.specs.declared.error.kind.ErrorKind.TheVariants.{ArgumentConflict, MissingRequiredArgument};
 
 use super::WordFault;
@@ -150,7 +150,7 @@ fn paths_said(
 }
 
 // The paths of the tables, where they are named as they should be: by their folder alone, or by options of which two are needed.
-pub(super) fn paths(
+fn paths(
     alloc: Global,
     name: Name,
     entries: &ArgMatches<'_>,
@@ -173,5 +173,43 @@ pub(super) fn paths(
             Ok(paths_said(alloc, entries, providers, inventories)?)
         }
         _ => Err(missing_options(alloc, name, entries)?),
+    }
+}
+
+// No paths.
+fn no_paths(alloc: Global) -> FiveTables<String>
+    ensures { paths_kept result ≡ no_paths }
+{
+    FiveTables {
+        providers: String::new(alloc),
+        inventories: String::new(alloc),
+        usages: None,
+        traits: None,
+        aggregates: None,
+    }
+}
+
+// Whether a command is about tables.
+fn has_tables(name: Name) -> bool
+    ensures { result ≡ has_tables name }
+{
+    !matches!(name, Name::Query)
+}
+
+// The paths of the tables, where a command is about some.
+pub(super) fn needed_paths(
+    alloc: Global,
+    name: Name,
+    entries: &ArgMatches<'_>,
+) -> Result<FiveTables<String>, WordFault>
+    ensures paths { IfOk result (λ paths. needed_paths name (rows_of (found_of entries.now))
+        ≡ Some (paths_kept paths)) }
+    ensures ok { OnOk result (needed_kinds name (rows_of (found_of entries.now)) ≡ []) }
+    ensures fault { IfErr result (Tells (needed_kinds name (rows_of (found_of entries.now)))) }
+{
+    if has_tables(name) {
+        paths(alloc, name, entries)
+    } else {
+        Ok(no_paths(alloc))
     }
 }

@@ -1,5 +1,4 @@
 use Rattle.std.proofs.Common.{◌∙◌, sym}
-use Rattle.ac_cloud.specs.Cloud.CloudWorld.{world_of}
 use Rattle.ac_session.proofs.Named.{found_none, found_some, named_same, named_turn, wanting_first}
 use Rattle.ac_session.proofs.Written.{turn_same}
 use Rattle.ac_session.specs.Held.{named_in}

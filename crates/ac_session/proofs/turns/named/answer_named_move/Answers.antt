@@ -1,6 +1,5 @@
 use Rattle.std.proofs.Common.{◌∙◌, ℕ, List, ap, sym}
 use Rattle.std.specs.Option.{option_map}
-use Rattle.ac_cloud.specs.Cloud.CloudWorld.{world_of}
 use Rattle.ac_session.proofs.Named.{named_same, named_turn, wanting_first}
 use Rattle.ac_session.proofs.Written.{turn_same}
 use Rattle.ac_session.specs.Held.{Claim, claim_shown}

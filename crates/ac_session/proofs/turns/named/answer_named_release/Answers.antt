@@ -1,6 +1,5 @@
 use Rattle.std.proofs.Common.{◌∙◌, ap, sym}
 use Rattle.std.specs.Option.{option_map}
-use Rattle.ac_cloud.specs.Cloud.CloudWorld.{world_of}
 use Rattle.ac_session.proofs.Named.{named_turn}
 use Rattle.ac_session.proofs.Written.{turn_same}
 use Rattle.ac_session.specs.Held.{claim_shown}
@@ -18,4 +17,4 @@ unfolding named_release_turn
 returns g c =
     let found = sym c.find.ensures ∙ ap (option_map (λ c. claim_shown c.now)) c.in-Some.is in
     let takes = rw (c.deref.ensures, c.deref-2.ensures) at c.answer_release-answered.ensures in
-    rw found (named_turn _ _ _ _ _ _ _ _ _ _ _ _ _ takes _ _ c.name_gone.ensures)
+    rw found (named_turn _ _ _ _ _ _ _ _ _ _ _ _ _ takes _ _ c.name_gone.ensures.named)

@@ -1,4 +1,4 @@
-use Rattle.std.proofs.Common.{arith, None, option_map, refl}
+use Rattle.std.proofs.Common.{arith, None, option_map}
 use Rattle.ac_cloud.specs.Cloud.CloudWorld.{providers_of}
 use Rattle.ac_query.specs.Shown.Queries.{asked_of}
 use Rattle.ac_run.specs.Answer.{at_host}

@@ -1,0 +1,15 @@
+pub mod AfterEdit
+pub mod Built
+pub mod Clouds
+pub mod Common
+pub mod Fewer
+pub mod Followed
+pub mod Forests
+pub mod GainedLost
+pub mod KeptTrees
+pub mod LinesRead
+pub mod Lists
+pub mod Removed
+pub mod Rises
+pub mod Touching
+pub mod Trees

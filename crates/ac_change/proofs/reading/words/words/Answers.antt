@@ -1,0 +1,13 @@
+use Rattle.std.proofs.Common.{rules, tests}
+use Rattle.std.proofs.lemmas.Iterator.Consumers.{YieldsList-at, YieldsList-from_filter, map_from_collect}
+use Rattle.std.proofs.lemmas.Iterator.Splits.{YieldsList-from_slice_split}
+use Rattle.ac_change.specs.Lines.{is_blank, is_word, words_of}
+use Rattle.ac_change.proofs.reading.words.words.Goals as goal
+
+pub returns : goal.returns
+unfolding words_of
+returns c =
+    map_from_collect _ c.collect.ensures.ran
+    (YieldsList-from_filter _ is_word
+    (YieldsList-at c.filter.ensures.source (YieldsList-from_slice_split _ is_blank c.args.line.now c.split.ensures.rest c.split.ensures.done c.split.ensures.closure (λ x r q k. search (rules, tests))))
+    c.filter.ensures.closure (λ x r q k. search (rules, tests)))

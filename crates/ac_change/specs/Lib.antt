@@ -1,0 +1,10 @@
+pub mod Changes
+pub mod Columns
+pub mod Drafts
+pub mod Faults
+pub mod Held
+pub mod Laws
+pub mod Lines
+pub mod Marked
+pub mod Shown
+pub mod Trees

@@ -1,0 +1,329 @@
+-- Over words and files in memory the program leaves the answer to what they ask.
+use Rattle.std.proofs.Common.{◌≡◌, ◌∙◌, ℕ, zero, suc, ◌≤◌, ◌<◌, Bool, true, false, List, [], ◌∷◌, ◌++◌, Option, Some, None, ◌⊎◌, inl, inr, if◌then◌else◌, refl, sym, ap, subst, arith, append-nil, append_assoc}
+use Rattle.std.proofs.lemmas.Bool.Decides.{nat_tests}
+use Rattle.std.specs.Io.KnownBytes.{Appends, Keeps}
+use Rattle.std.specs.Prelude.{Contains, nat_le}
+use Rattle.ac_base.specs.Devices.{Rises}
+use Rattle.ac_run.specs.Answer.{Outcome, answer}
+use Rattle.std.specs.Option.{option_map}
+use Rattle.ac_run.specs.Feeds.{Bytes, FeedRose, RisesIn, TellBytes, is_long, is_long_there}
+use Rattle.ac_run.specs.Notes.{noted}
+use Rattle.ac_run.specs.Run.{FailsOr, IsAnswered, IsRefused}
+use Rattle.ac_run.specs.Tasks.{Command, Paths, Task}
+use Rattle.ac_tables.specs.declared.fault.Table.{Table}
+use Rattle.ac_tables.specs.declared.fault.Table.TheVariants as table
+use Rattle.ac_tables.specs.declared.read.FiveTables.{FiveTables}
+use Rattle.clap.specs.declared.error.kind.ErrorKind.{ErrorKind}
+use Rattle.clap.specs.Words.{IsAmong, Kinds, Text}
+use Rattle.ac_tables.specs.FiveTables.{table_in}
+use Rattle.ac_words.specs.Words.{IsMadeOf, Line, Says, faults, file_called, is_tabled, named, task_in}
+use Rattle.ac_cli.specs.Files.{AreOpened, ExplainsUnread, HoldsChanges, HoldsFile, IsOpened}
+use Rattle.ac_cli.specs.InMemory.{AsksOver, Files, HasFile, HasFiles, HasOwn, HasTables, bytes_at, file_bytes, left_by, needs}
+use Rattle.ac_cli.specs.Program.{EndsForLine, EndsForWords, EndsGiven, EndsLine, EndsProgram, IsToldUnread, Ran, RanCall, RanHeaders, RanJob, Streams, detail_in, is_check, note_behind, note_of, path_beside}
+use Rattle.ac_cli.specs.declared.files.Beside.{Beside}
+use Rattle.ac_cli.specs.declared.files.Beside.TheVariants as beside
+use Rattle.ac_cli.specs.declared.files.FileUnread.{FileUnread}
+use Rattle.ac_cli.specs.declared.files.FileUnread.TheVariants as unread
+use Rattle.ac_cli.specs.declared.memory.MemFile.{MemFile}
+
+-- ---- what a run leaves where nothing fails
+
+which : (n : ℕ) → Contains (0 ∷ 1 ∷ 3 ∷ 4 ∷ 5 ∷ 6 ∷ 7 ∷ 8 ∷ []) n → n ≤ 6 → (n ≤ 1) ⊎ ((n ≡ 3) ⊎ ((n ≡ 4) ⊎ ((n ≡ 5) ⊎ (n ≡ 6))))
+which n (zero, low, is) few = inl (omega (arith, is))
+which n (suc zero, low, is) few = inl (omega (arith, is))
+which n (suc (suc zero), low, is) few = inr (inl (sym is))
+which n (suc (suc (suc zero)), low, is) few = inr (inr (inl (sym is)))
+which n (suc (suc (suc (suc zero))), low, is) few = inr (inr (inr (inl (sym is))))
+which n (suc (suc (suc (suc (suc zero)))), low, is) few = inr (inr (inr (inr (sym is))))
+which n (suc (suc (suc (suc (suc (suc zero))))), low, is) few = absurd (omega (arith, is, few))
+which n (suc (suc (suc (suc (suc (suc (suc zero)))))), low, is) few = absurd (omega (arith, is, few))
+which n (suc (suc (suc (suc (suc (suc (suc (suc k))))))), low, is) few = absurd (omega (arith, low))
+
+nothing_more : (old new : Option (List ℕ)) → Keeps old new → Appends old new []
+nothing_more None new kept = tt
+nothing_more (Some xs) None kept = kept
+nothing_more (Some xs) (Some ys) kept = kept ∙ sym (append-nil xs)
+
+then_more : (old between new : Option (List ℕ)) (first later : List ℕ) → Appends old between first → Appends between new later → Appends old new (first ++ later)
+then_more None between new first later a b = tt
+then_more (Some xs) None new first later a b = absurd a
+then_more (Some xs) (Some ys) None first later a b = b
+then_more (Some xs) (Some ys) (Some zs) first later a b = b ∙ ap (λ l. l ++ later) a ∙ append_assoc xs first later
+
+-- a count that stays at nothing doesn't rise
+still : (m n : ℕ) → m ≡ 0 → n ≡ 0 → Rises m n → ⊥
+still m n first last rose = let more : m < n = rose (omega (arith, first)) in omega (arith, more, first, last)
+
+module _ {R : Type 0} (remaining : R → Option (List ℕ)) (said : Bytes → Outcome) (may : Bytes → Type 0) (Unread : Table → Type 0) (from : FiveTables R) (s : Streams) (given : ℕ)
+    (b : Bytes) (tell : TellBytes remaining from b) (read : (t : Table) → Unread t → ⊥) (out_whole : Rises s.out_before s.out_after → ⊥) (err_whole : Rises s.err_before s.err_after → ⊥)
+    (few : given ≤ 6) (ran : Ran remaining said may Unread from s given) where
+  abbrev IsDone : Type 0
+  IsDone = IsAnswered (said b) s.out_old s.out_new s.err_old s.err_new given
+
+  refused : 3 ≤ given → given ≤ 5 → IsRefused (said b) s.err_old s.err_new s.err_before s.err_after given → IsDone
+  refused low high this = record {
+    output = subst (Appends s.out_old s.out_new) (sym this.output) (nothing_more s.out_old s.out_new (ran.untouched low high));
+    line = this.line.whole err_whole;
+    status = this.status;
+  }
+
+  tables : (failed : Option Table) × FailsOr Unread ((b : Bytes) → TellBytes remaining from b → IsRefused (said b) s.err_old s.err_new s.err_before s.err_after given) failed
+      → given ≡ 3 → IsDone
+  tables (Some t, rose) three = absurd (read t rose)
+  tables (None, this) three = refused (omega (arith, three)) (omega (arith, three)) (this b tell)
+
+  pub is_done : IsDone
+  is_done = elim (which given ran.status few) [
+    | inl small ↦ ran.written small b tell
+    | inr others ↦ elim others [
+      | inl three ↦ tables (ran.tables three) three
+      | inr later ↦ elim later [
+        | inl four ↦ refused (omega (arith, four)) (omega (arith, four)) (ran.query four b tell)
+        | inr last ↦ elim last [
+          | inl five ↦ refused (omega (arith, five)) (omega (arith, five)) (ran.token five b tell)
+          | inr six ↦ absurd (out_whole (ran.output six).0)
+        ]
+      ]
+    ]
+  ]
+
+-- what is told behind an answer depends on its note alone where one was written
+same_note : (command : Command) (detail : Option Paths) (given : ℕ) (said note : List ℕ) → (given ≤ 1 → said ≡ note)
+    → note_behind command detail given said ≡ note_behind command detail given note
+same_note command detail given said note same = by (is_check command) (nat_le given 1) refl
+  where
+    by : (check small : Bool) → nat_le given 1 ≡ small
+        → (if check then note_of command detail given else (if small then said else [])) ≡ (if check then note_of command detail given else (if small then note else []))
+    by true small is = refl
+    by false true is = same (grind (arith, nat_tests, is))
+    by false false is = refl
+
+-- a job leaves its answer, and its note behind it
+pub job_left : {R : Type 0} (remaining : R → Option (List ℕ)) (failures : R → ℕ) (task : Task) (from to : FiveTables R) (s : Streams) (given : ℕ) (b : Bytes)
+    → TellBytes remaining from b → ((t : Table) → FeedRose failures from to t → ⊥) → s.out_before ≡ 0 → s.out_after ≡ 0 → s.err_before ≡ 0 → s.err_after ≡ 0 → given ≤ 6
+    → RanJob remaining failures task from to s given → IsAnswered (left_by task b) s.out_old s.out_new s.err_old s.err_new given
+job_left remaining failures task from to s given b tell read out_before out_after err_before err_after few job =
+    let none : job.count ≡ 0 = omega (arith, job.later, err_after) in
+    let done = is_done remaining (answer task) _ _ from (record s { err_new = job.err; err_after = job.count }) given b tell (λ t unread. read t unread.rises)
+    (still s.out_before s.out_after out_before out_after) (still s.err_before job.count err_before none) few job.ran in
+    let note = job.note.whole (still job.count s.err_after none err_after) in
+    let same = same_note task.command task.detail given job.said (noted task b) (λ small. job.tied small b tell) in
+    record {
+      output = done.output;
+      line = then_more s.err_old job.err s.err_new _ _ done.line
+          (subst (λ n. Appends job.err s.err_new (note_behind task.command task.detail n (noted task b))) done.status (subst (Appends job.err s.err_new) same note));
+      status = done.status;
+    }
+
+-- ---- a line is what the words say, and nothing else
+
+some_same : {X : Type 0} {x y : X} → Some x ≡ Some y → x ≡ y
+some_same e = cc
+
+pub one_line : (name : _) (rows : _) (l m : Line) → IsMadeOf name rows l → IsMadeOf name rows m → l ≡ m
+one_line name rows l m h k =
+    ap (λ x. record l { call = x }) (some_same (sym h.call ∙ k.call))
+    ∙ ap (λ x. record l { call = m.call; version = x }) (some_same (sym h.version ∙ k.version))
+    ∙ ap (λ x. record l { call = m.call; version = m.version; tries = x }) (some_same (sym h.tries ∙ k.tries))
+    ∙ ap (λ x. record l { call = m.call; version = m.version; tries = m.tries; changes = x }) (sym h.changes ∙ k.changes)
+    ∙ ap (λ x. record l { call = m.call; version = m.version; tries = m.tries; changes = m.changes; detail = x }) (sym h.detail ∙ k.detail)
+    ∙ ap (λ x. record l { call = m.call; version = m.version; tries = m.tries; changes = m.changes; detail = m.detail; paths = x }) (some_same (sym h.paths ∙ k.paths))
+
+pub same_said : (found : _) (l m : Line) → Says found l → Says found m → l ≡ m
+same_said None l m h k = absurd h
+same_said (Some p) l m h k = one_line p.0 p.1 l m h k
+
+-- ---- files in memory
+
+-- what was opened at a path is the file there, a refused path has none, and a file tells its bytes
+abbrev Opens : Files → Text → MemFile → Type 0
+Opens files path file = bytes_at files path ≡ Some (file_bytes file)
+
+abbrev Refuses : Files → Text → Text → Type 0
+Refuses files path reason = bytes_at files path ≡ None
+
+abbrev told : MemFile → Option (List ℕ)
+told file = Some (file_bytes file)
+
+abbrev never : MemFile → ℕ
+never file = 0
+
+no_rise : (from to : FiveTables MemFile) (t : Table) → FeedRose never from to t → ⊥
+no_rise from to table.Providers rose = still 0 0 refl refl rose
+no_rise from to table.Inventories rose = still 0 0 refl refl rose
+no_rise from to table.Usages rose = some_rise from.usages to.usages rose
+  where
+    some_rise : (a b : Option MemFile) → RisesIn never a b → ⊥
+    some_rise None b rose = rose
+    some_rise (Some a) None rose = rose
+    some_rise (Some a) (Some b) rose = still 0 0 refl refl rose
+no_rise from to table.Traits rose = some_rise from.traits to.traits rose
+  where
+    some_rise : (a b : Option MemFile) → RisesIn never a b → ⊥
+    some_rise None b rose = rose
+    some_rise (Some a) None rose = rose
+    some_rise (Some a) (Some b) rose = still 0 0 refl refl rose
+no_rise from to table.Aggregates rose = some_rise from.aggregates to.aggregates rose
+  where
+    some_rise : (a b : Option MemFile) → RisesIn never a b → ⊥
+    some_rise None b rose = rose
+    some_rise (Some a) None rose = rose
+    some_rise (Some a) (Some b) rose = still 0 0 refl refl rose
+
+module _ (files : Files) where
+  -- the tables that were opened tell their bytes
+  tells_one : (path : Text) (bytes : List ℕ) (file : MemFile) → bytes_at files path ≡ Some bytes → Opens files path file → told file ≡ Some bytes
+  tells_one path bytes file has opened = sym opened ∙ has
+
+  tells_some : (path : Option Text) (bytes : Option (List ℕ)) (file : Option MemFile) → HasFile files path bytes → IsOpened (Opens files) path file
+      → option_map told file ≡ option_map (λ x. Some x) bytes
+  tells_some None None None has opened = refl
+  tells_some None None (Some file) has opened = absurd opened
+  tells_some (Some path) (Some bytes) None has opened = absurd opened
+  tells_some (Some path) (Some bytes) (Some file) has opened = ap Some (tells_one path bytes file has opened)
+  tells_some None (Some bytes) file has opened = absurd has
+  tells_some (Some path) None file has opened = absurd has
+
+  tells : (paths : Paths) (b : Bytes) (from : FiveTables MemFile) → HasTables files paths b → AreOpened (Opens files) paths from → TellBytes told from b
+  tells paths b from has opened = record {
+    providers = tells_one paths.providers b.providers from.providers has.providers (opened table.Providers);
+    inventories = tells_one paths.inventories b.inventories from.inventories has.inventories (opened table.Inventories);
+    usages = tells_some paths.usages b.usages from.usages has.usages (opened table.Usages);
+    traits = tells_some paths.traits b.traits from.traits has.traits (opened table.Traits);
+    aggregates = tells_some paths.aggregates b.aggregates from.aggregates has.aggregates (opened table.Aggregates);
+  }
+
+  -- none of their paths is refused
+  not_refused : (path : Option Text) (bytes : Option (List ℕ)) (at : Text) → HasFile files path bytes → path ≡ Some at → bytes_at files at ≡ None → ⊥
+  not_refused None None at has is none = absurd cc
+  not_refused (Some path) (Some bytes) at has is none = absurd cc
+  not_refused None (Some bytes) at has is none = absurd has
+  not_refused (Some path) None at has is none = absurd has
+
+  all_there : (paths : Paths) (b : Bytes) → HasTables files paths b → (t : Table) (at : Text) → table_in paths t ≡ Some at → bytes_at files at ≡ None → ⊥
+  all_there paths b has table.Providers at is none = not_refused (Some paths.providers) (Some b.providers) at has.providers is none
+  all_there paths b has table.Inventories at is none = not_refused (Some paths.inventories) (Some b.inventories) at has.inventories is none
+  all_there paths b has table.Usages at is none = not_refused paths.usages b.usages at has.usages is none
+  all_there paths b has table.Traits at is none = not_refused paths.traits b.traits at has.traits is none
+  all_there paths b has table.Aggregates at is none = not_refused paths.aggregates b.aggregates at has.aggregates is none
+
+  -- what stands beside the tables is there, and not too long
+  abbrev IsHeld : Text → Type 0
+  IsHeld path = (bytes : List ℕ) × (bytes_at files path ≡ Some bytes) × (is_long bytes ≡ false)
+
+  own_held : (path : Option Text) (bytes : List ℕ) (at : Text) → HasOwn files path bytes → is_long bytes ≡ false → path ≡ Some at → IsHeld at
+  own_held None bytes at has few is = absurd cc
+  own_held (Some path) bytes at has few is = (bytes, ap (bytes_at files) (sym (some_same is)) ∙ has, few)
+
+  changes_held : (path : Option Text) (bytes : Option (List ℕ)) (at : Text) → HasFile files path bytes → is_long_there bytes ≡ false → path ≡ Some at → IsHeld at
+  changes_held None None at has few is = absurd cc
+  changes_held (Some path) (Some bytes) at has few is = (bytes, ap (bytes_at files) (sym (some_same is)) ∙ has, few)
+  changes_held None (Some bytes) at has few is = absurd has
+  changes_held (Some path) None at has few is = absurd has
+
+  beside_held : (line : Line) (b : Bytes) (file : List ℕ) (changes : Option (List ℕ)) → HasFiles files line b file changes
+      → (of : Beside) (at : Text) → path_beside line of ≡ Some at → IsHeld at
+  beside_held line b file changes has beside.Changes at is = changes_held line.changes changes at has.changed has.few_changes is
+  beside_held line b file changes has beside.Answer at is = own_held (file_called line.call) file at has.own has.few is
+  beside_held line b file changes has beside.Flavors at is = own_held (file_called line.call) file at has.own has.few is
+
+  -- so it can be had, where memory suffices
+  can_be_had : (at : Text) → IsHeld at → (why : FileUnread) → ExplainsUnread (Opens files) (Refuses files) told never at why
+      → (of : Beside) (detail : Option Paths) (Told : List ℕ → Type 0) (given : ℕ) → IsToldUnread of detail at why Told given → given ≤ 6 → ⊥
+  can_be_had at held (unread.Unopened reason) because of detail Told given is few = let there = held.1 in absurd cc
+  can_be_had at held unread.Failed because of detail Told given is few = still 0 0 refl refl because.3
+  can_be_had at held unread.TooLarge because of detail Told given is few =
+      let same : held.0 ≡ file_bytes because.0 = some_same (sym held.1 ∙ because.1) in
+      let many = because.2 in
+      let short : is_long (file_bytes because.0) ≡ false = ap is_long (sym same) ∙ held.2 in
+      absurd (grind (arith, nat_tests, many, short))
+  can_be_had at held unread.NoMemory because of detail Told given is few = absurd (omega (arith, few, is.1))
+
+  -- and what was read is what is there
+  same_own : (path : Option Text) (bytes read : List ℕ) → HasOwn files path bytes → HoldsFile (Opens files) told path read → read ≡ bytes
+  same_own None bytes read has holds = holds ∙ sym has
+  same_own (Some path) bytes read has holds = holds.all ∙ some_same (sym holds.opened ∙ has)
+
+  same_changes : (path : Option Text) (bytes read : Option (List ℕ)) → HasFile files path bytes → HoldsChanges (Opens files) told path read → read ≡ bytes
+  same_changes None None None has holds = refl
+  same_changes None None (Some read) has holds = absurd holds
+  same_changes (Some path) (Some bytes) None has holds = absurd holds
+  same_changes (Some path) (Some bytes) (Some read) has holds = ap Some (holds.all ∙ some_same (sym holds.opened ∙ has))
+  same_changes None (Some bytes) read has holds = absurd has
+  same_changes (Some path) None read has holds = absurd has
+
+-- ---- the program
+
+module _ {Q : Type 0} (asked : Q → Option (List ℕ)) (fails : Q → ℕ) (questions : Q) (words : List Text) (files : Files) (s : Streams) (given : ℕ)
+    (out_before : s.out_before ≡ 0) (out_after : s.out_after ≡ 0) (err_before : s.err_before ≡ 0) (err_after : s.err_after ≡ 0) (few : given ≤ 6)
+    (task : Task) (b : Bytes) (asks : AsksOver words files task b) where
+  abbrev IsDoneSo : Type 0
+  IsDoneSo = IsAnswered (left_by task b) s.out_old s.out_new s.err_old s.err_new given
+
+  called : (call : Option Task) (line : Line) (changes : Option (List ℕ)) (from to : FiveTables MemFile) → call ≡ Some task → TellBytes told from b
+      → RanCall told never asked fails call line changes from to questions s given → IsDoneSo
+  called call line changes from to is tell ran =
+      job_left told never task from to s given b tell (no_rise from to) out_before out_after err_before err_after few
+      (subst (λ (c : Option Task). RanCall told never asked fails c line changes from to questions s given) is ran)
+
+  abbrev own : Line
+  own = asks.line
+
+  over_headers : RanHeaders told never asked fails questions own s given → IsDoneSo
+  over_headers ran =
+      let none = subst (λ t. needs t (HasFiles files own b asks.file asks.changes) b asks.file asks.changes) ran.untabled asks.there in
+      called (task_in own [] None (detail_in own)) own None ran.from ran.to
+      (ap (λ f. task_in own f None (detail_in own)) (sym none.1) ∙ ap (λ c. task_in own asks.file c (detail_in own)) (sym none.2) ∙ asks.asks)
+      (subst (TellBytes told ran.from) (sym none.0) ran.tells) ran.ran
+
+  over_files : is_tabled own.call ≡ true → EndsForLine (Opens files) (Refuses files) told never asked fails questions own s given → IsDoneSo
+  over_files tabled ends =
+      let has = subst (λ t. needs t (HasFiles files own b asks.file asks.changes) b asks.file asks.changes) tabled asks.there in
+      elim ends [
+        | inl unopened ↦ absurd (all_there files own.paths b has.tables unopened.table unopened.path unopened.named unopened.refused)
+        | inr rest ↦ elim rest [
+          | inl lacks ↦ absurd (can_be_had files lacks.path (beside_held files own b asks.file asks.changes has lacks.of lacks.path lacks.named) lacks.why lacks.because
+              lacks.of (detail_in own) _ given lacks.told few)
+          | inr opened ↦
+              called (task_in own opened.file opened.changes (detail_in own)) own opened.changes opened.from opened.to
+              (ap (λ f. task_in own f opened.changes (detail_in own)) (same_own files (file_called own.call) asks.file opened.file has.own opened.held)
+              ∙ ap (λ c. task_in own asks.file c (detail_in own)) (same_changes files own.changes asks.changes opened.changes has.changed opened.changed) ∙ asks.asks)
+              (tells files own.paths b opened.from has.tables opened.files) opened.ran
+        ]
+      ]
+
+  abbrev Ends : Line → Type 0
+  Ends line = EndsLine (RanHeaders told never asked fails questions line s given) (EndsForLine (Opens files) (Refuses files) told never asked fails questions line s given) line
+
+  over_line : Ends own → IsDoneSo
+  over_line (inl ran) = over_headers ran
+  over_line (inr ends) = over_files ends.0 ends.1
+
+  over_words : EndsForWords Ends words s given → IsDoneSo
+  over_words ends = elim ends [
+    | inl helped ↦ absurd (elim helped.asked [ inl h ↦ none_among _ h | inr h ↦ none_among _ h ])
+    | inr rest ↦ elim rest [
+      | inl misworded ↦ absurd (none_among misworded.kind misworded.among)
+      | inr later ↦ elim later [
+        | inl memory ↦ absurd (omega (arith, few, memory.status))
+        | inr said ↦ over_line (subst Ends (same_said (named words) said.line own said.says asks.says) said.ends)
+      ]
+    ]
+  ]
+    where
+      none_among : (kind : ErrorKind) → IsAmong kind (faults words) → ⊥
+      none_among kind among = subst (λ (kinds : Kinds). IsAmong kind kinds) asks.fine among
+
+  -- what the program leaves is the answer to what the words ask
+  pub program_left : {gives : List Text → Type 0} {Sample : Type 0} → ((given : List Text) → gives given → given ≡ words) → EndsProgram gives ⊥ Sample Ends s given → IsDoneSo
+  program_left same ends = elim ends [
+    | inl garbled ↦ absurd garbled.0
+    | inr rest ↦ elim rest [
+      | inl memory ↦ absurd (omega (arith, few, memory.status))
+      | inr by ↦ by_words (subst (λ w. EndsGiven _ Ends w s given) (same by.0 by.1) by.2)
+    ]
+  ]
+    where
+      by_words : {Sample : Type 0} → EndsGiven Sample Ends words s given → IsDoneSo
+      by_words (inl sample) = absurd (omega (arith, sample.0, asks.some))
+      by_words (inr ends) = over_words ends.1
