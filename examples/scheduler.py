@@ -25,10 +25,11 @@ from ac_session import Refused, Session  # noqa: E402
 POLICIES = {'first': None, 'pack': min, 'spread': max}
 
 
-def open_session(folder):
-    """A session over these tables, of the program that is named, else of this repository, else on the path."""
+def open_session(folder, change=None):
+    """A session over these tables, as a file of changes leaves them, of the program that is named, else of this repository, else on the path."""
     program = os.path.join(TOP, 'ac_cli')
-    return Session(folder, program=os.environ.get('AC_CLI') or (program if os.path.exists(program) else 'ac_cli'))
+    changes = ['--change', change] if change else []
+    return Session(folder, *changes, program=os.environ.get('AC_CLI') or (program if os.path.exists(program) else 'ac_cli'))
 
 
 def asked_by(query):

@@ -1,7 +1,7 @@
 #!/usr/bin/env python3
-"""examples/trace.py FOLDER TRACE.csv FLAVORS.csv [--policy first|pack|spread] [--every N]: plays a trace of instances that come and go on the cloud of these
-tables. It prints how much of each class is in use, in percent of its capacity, after each N events (100, if not said) and at the end; and then of each flavor
-how many arrived, and how many of these were refused for want of room. AC_CLI may name the program to ask.
+"""examples/trace.py FOLDER TRACE.csv FLAVORS.csv [--policy first|pack|spread] [--every N] [--change FILE]: plays a trace of instances that come and go on the
+cloud of these tables, perhaps as changes leave it. It prints how much of each class is in use, in percent of its capacity, after each N events (100, if not
+said) and at the end; and then of each flavor how many arrived, and how many of these were refused for want of room. AC_CLI may name the program to ask.
 
 The columns of the trace are `time`, `what` (`arrive` or `depart`), `name` and `flavor`; those of the flavors `flavor` and `query`, as for `ac_cli capacity`.
 Who was refused, or was never there, departs in vain. The policies are those of examples/scheduler.py.
@@ -69,6 +69,7 @@ def main():
         parser.add_argument(name, metavar=name.upper())
     parser.add_argument('--policy', choices=POLICIES, default='first')
     parser.add_argument('--every', type=int, default=100)
+    parser.add_argument('--change')
     parser.add_argument('--make', type=int)
     parser.add_argument('--seed', type=int, default=1)
     given = parser.parse_args()
@@ -80,7 +81,7 @@ def main():
         return
     with open(given.trace, encoding='utf-8', newline='') as table:
         events = list(csv.DictReader(table))
-    with open_session(given.folder) as session:
+    with open_session(given.folder, given.change) as session:
         try:
             arrived, refused = played(Scheduler(session, given.policy), events, queries, given.every)
         except Refused as fault:

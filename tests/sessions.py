@@ -1314,6 +1314,18 @@ flavor,arrived,refused
 disk,1,0
 huge,3,1
 """
+# The same without compute-01: of 16 VCPUs 14 are in use, of 7680 MB 4096; only the small one finds room, for 2 and 1024.
+WITHOUT_ONE = """time,DISK_GB,MEMORY_MB,VCPU
+2,11.6,53.3,87.5
+7,11.6,66.7,100.0
+9,11.6,66.7,100.0
+10,11.6,66.7,100.0
+
+flavor,arrived,refused
+"small, of memory",1,0
+disk,1,1
+huge,3,3
+"""
 MADE = """AC_CLI="$0"; export AC_CLI; room=$(mktemp -d)
 for made in '4 one' '4 same' '5 other'; do examples/trace.py none "$room/${made#* }" examples/flavors.csv --make 200 --seed "${made% *}"; done
 cmp "$room/one" "$room/same" && ! cmp -s "$room/one" "$room/other" && wc -l <"$room/one" && cut -d, -f2-3 "$room/one" | sort | uniq -d
@@ -1342,6 +1354,7 @@ def schedules(program):
     last = head + '8,11.6,40.0,62.5,81.8\n' + ''.join(rows[3:])
     arrivals = EVENTS.splitlines(True)[0] + '1,arrive,a,disk\n'
     yield Case('examples/trace.py: a trace', [*played, '2'], IN_USE, given=EVENTS.encode(), tables={'flavors': EVENT_FLAVORS})
+    yield Case('examples/trace.py: a trace without a host', [*played, '2'], WITHOUT_ONE, given=EVENTS.encode(), tables={'flavors': EVENT_FLAVORS, 'change': 'remove compute-01'})
     yield Case('examples/trace.py: the last event is told of', [*played, '5'], last, given=EVENTS.encode(), tables={'flavors': EVENT_FLAVORS})
     for event, told in ('arrive,a,disk', 'a is there'), ('arrive,b,Disk', 'no flavor Disk'), ('place,b,disk', 'b neither arrives nor departs'):
         yield Case(f'examples/trace.py: {told}', [*played, '9'], head, f'event 2: {told}\n', 1, {'flavors': EVENT_FLAVORS},
