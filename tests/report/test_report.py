@@ -200,9 +200,9 @@ class Checks(unittest.TestCase):
         self.assertIn(ended.returncode, (0, 1), ended.stderr)
         return ended.stdout
 
-    def compare(self, read, styles, folder, flavors, program):
+    def compare(self, read, styles, folder, flavors, program, *words):
         """What was read of a page with what the commands write."""
-        tables = '--tables', folder
+        tables = '--tables', folder, *words
         capacity = rows(self.asked(program, 'capacity', flavors, *tables))
         self.assertEqual(read['tables']['capacity'], [[row['flavor'] or '(no name)', *list(row.values())[1:]] for row in capacity])
         findings = [[row['kind'], row['name'], row['detail'], row['provider']] for row in rows(self.asked(program, 'audit', *tables))]
@@ -253,6 +253,17 @@ class Written(Checks):
             for command, part in zip(page.commands[2:], page.read()['flavors']):
                 found = rows(ran('sh', '-c', f'ac_cli() {{ {program} "$@"; }}; {command}').stdout)
                 self.assertEqual([title for _, title in part['squares'][0]], list(map(told, in_order(found))))
+
+    def test_changes(self):
+        """All is asked of what changes leave, and they stand there."""
+        with tempfile.NamedTemporaryFile('w', suffix='.txt') as changes:
+            changes.write('remove cmp-az1-000\n# <b>\n')
+            changes.flush()
+            page = self.page(PRIVATE, FLAVORS, PROGRAM, '--change', changes.name)
+            self.compare(page.read(), page.styles, PRIVATE, FLAVORS, PROGRAM, '--change', changes.name)
+            self.inward(page)
+            self.assertEqual(page.text.count('cmp-az1-000'), 1)
+            self.assertIn('<dd>remove cmp-az1-000</dd>\n<dd># &lt;b&gt;</dd>', page.text)
 
     def test_date(self):
         """The export is as old as the newest of its tables."""

@@ -87,6 +87,7 @@ class Report:
     """All that stands on the page."""
     exported: datetime
     folder: str
+    changes: str
     version: str
     check: Answer
     capacity: Answer
@@ -156,7 +157,10 @@ def header(report: Report) -> Iterator[str]:
     yield '<header>\n<h1>What fits, and what is lacking</h1>\n'
     yield f'<p class="sum">{placed(report.flavors)} The tables have <a href="#findings">{counted(len(report.findings), "finding")}</a>.</p>\n'
     yield f'<dl>\n<dt>exported</dt><dd><time datetime="{report.exported:%Y-%m-%dT%H:%MZ}">{report.exported:%Y-%m-%d %H:%M} UTC</time></dd>\n'
-    yield f'<dt>tables</dt><dd>{escaped(report.folder)}: {escaped(tables)}</dd>\n<dt>program</dt><dd>{escaped(report.version)}</dd>\n</dl>\n'
+    yield f'<dt>tables</dt><dd>{escaped(report.folder)}: {escaped(tables)}</dd>\n'
+    if report.changes:
+        yield '<dt>changed</dt>' + ''.join(f'<dd>{escaped(line)}</dd>\n' for line in report.changes.splitlines())
+    yield f'<dt>program</dt><dd>{escaped(report.version)}</dd>\n</dl>\n'
     yield command(report.check) + '</header>\n'
 
 
