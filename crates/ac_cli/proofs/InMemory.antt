@@ -1,7 +1,11 @@
 -- Over words and files in memory the program leaves the answer to what they ask.
-use Rattle.std.proofs.Common.{◌≡◌, ◌∙◌, ℕ, zero, suc, ◌≤◌, ◌<◌, Bool, true, false, List, [], ◌∷◌, ◌++◌, Option, Some, None, ◌⊎◌, inl, inr, if◌then◌else◌, refl, sym, ap, subst, arith, append-nil, append_assoc}
+use Rattle.std.proofs.Common.{◌≡◌, ◌∙◌, ℕ, zero, suc, ◌≤◌, ◌<◌, Bool, true, false, List, [], ◌∷◌, ◌++◌, Option, Some, None, length, ◌⊎◌, inl, inr, if◌then◌else◌, refl, sym, ap, subst, arith, append-nil, append_assoc}
 use Rattle.std.proofs.lemmas.Bool.Decides.{nat_tests}
-use Rattle.std.specs.Io.KnownBytes.{Appends, Keeps}
+use Rattle.std.specs.Io.KnownBytes.{Appends, Keeps, append_known}
+use Rattle.ac_base.specs.Gathered.{IsFirstPart}
+use Rattle.ac_query.specs.declared.version.Version.{Version}
+use Rattle.ac_session.specs.Lines.{most_passed}
+use Rattle.ac_session.specs.Sessions.{session_answer}
 use Rattle.std.specs.Prelude.{Contains, nat_le}
 use Rattle.ac_base.specs.Devices.{Rises}
 use Rattle.ac_run.specs.Answer.{Outcome, answer}
@@ -18,8 +22,8 @@ use Rattle.clap.specs.Words.{IsAmong, Kinds, Text}
 use Rattle.ac_tables.specs.FiveTables.{table_in}
 use Rattle.ac_words.specs.Words.{IsMadeOf, Line, Says, faults, file_called, is_tabled, named, task_in}
 use Rattle.ac_cli.specs.Files.{AreOpened, ExplainsUnread, HoldsChanges, HoldsFile, IsOpened}
-use Rattle.ac_cli.specs.InMemory.{AsksOver, Files, HasFile, HasFiles, HasOwn, HasTables, bytes_at, file_bytes, left_by, needs}
-use Rattle.ac_cli.specs.Program.{EndsForLine, EndsForWords, EndsGiven, EndsLine, EndsProgram, IsToldUnread, Ran, RanCall, RanHeaders, RanJob, Streams, detail_in, is_check, note_behind, note_of, path_beside}
+use Rattle.ac_cli.specs.InMemory.{AsksOver, Files, HoldsOver, SaysOver, held_by, HasFile, HasFiles, HasOwn, HasTables, bytes_at, file_bytes, left_by, needs}
+use Rattle.ac_cli.specs.Program.{HeldSession, Unread, EndsForLine, EndsForWords, EndsGiven, EndsLine, EndsProgram, IsToldUnread, Ran, RanCall, RanHeaders, RanJob, Streams, detail_in, is_check, note_behind, note_of, path_beside}
 use Rattle.ac_cli.specs.declared.files.Beside.{Beside}
 use Rattle.ac_cli.specs.declared.files.Beside.TheVariants as beside
 use Rattle.ac_cli.specs.declared.files.FileUnread.{FileUnread}
@@ -148,27 +152,17 @@ told file = Some (file_bytes file)
 abbrev never : MemFile → ℕ
 never file = 0
 
+some_rise : (a b : Option MemFile) → RisesIn never a b → ⊥
+some_rise None b rose = rose
+some_rise (Some a) None rose = rose
+some_rise (Some a) (Some b) rose = still 0 0 refl refl rose
+
 no_rise : (from to : FiveTables MemFile) (t : Table) → FeedRose never from to t → ⊥
 no_rise from to table.Providers rose = still 0 0 refl refl rose
 no_rise from to table.Inventories rose = still 0 0 refl refl rose
 no_rise from to table.Usages rose = some_rise from.usages to.usages rose
-  where
-    some_rise : (a b : Option MemFile) → RisesIn never a b → ⊥
-    some_rise None b rose = rose
-    some_rise (Some a) None rose = rose
-    some_rise (Some a) (Some b) rose = still 0 0 refl refl rose
 no_rise from to table.Traits rose = some_rise from.traits to.traits rose
-  where
-    some_rise : (a b : Option MemFile) → RisesIn never a b → ⊥
-    some_rise None b rose = rose
-    some_rise (Some a) None rose = rose
-    some_rise (Some a) (Some b) rose = still 0 0 refl refl rose
 no_rise from to table.Aggregates rose = some_rise from.aggregates to.aggregates rose
-  where
-    some_rise : (a b : Option MemFile) → RisesIn never a b → ⊥
-    some_rise None b rose = rose
-    some_rise (Some a) None rose = rose
-    some_rise (Some a) (Some b) rose = still 0 0 refl refl rose
 
 module _ (files : Files) where
   -- the tables that were opened tell their bytes
@@ -252,70 +246,119 @@ module _ (files : Files) where
   same_changes None (Some bytes) read has holds = absurd has
   same_changes (Some path) None read has holds = absurd has
 
+-- ---- a session
+
+held_ends : (n : ℕ) → Contains (0 ∷ 3 ∷ 6 ∷ 7 ∷ []) n → n ≤ 6 → (n ≡ 0) ⊎ ((n ≡ 3) ⊎ (n ≡ 6))
+held_ends n (zero, low, is) few = inl (sym is)
+held_ends n (suc zero, low, is) few = inr (inl (sym is))
+held_ends n (suc (suc zero), low, is) few = inr (inr (sym is))
+held_ends n (suc (suc (suc zero)), low, is) few = absurd (omega (arith, is, few))
+held_ends n (suc (suc (suc (suc k))), low, is) few = absurd (omega (arith, low))
+
+front_none : (xs ys : List ℕ) → [] ≡ xs ++ ys → xs ≡ []
+front_none [] ys none = refl
+front_none (x ∷ xs) ys none = absurd cc
+
+-- what was written of an output that is empty
+nothing_written : (old new : Option (List ℕ)) (output : List ℕ) → old ≡ Some [] → output ≡ [] → IsFirstPart (append_known old output) new → Appends old new output
+nothing_written None new output first none part = absurd cc
+nothing_written (Some xs) None output first none part = part
+nothing_written (Some xs) (Some ys) output first none part =
+    let all : xs ++ output ≡ [] = ap (λ l. l ++ output) (some_same first) ∙ none in
+    front_none ys part.0 (sym all ∙ part.1) ∙ sym all
+
+module _ (questions : MemFile) (detail : Option Paths) (changes : Option (List ℕ)) (version : Version) (from to : FiveTables MemFile) (s : Streams) (given : ℕ)
+    (b : Bytes) (tell : TellBytes told from b) (first : s.out_old ≡ Some []) (out_before : s.out_before ≡ 0) (out_after : s.out_after ≡ 0)
+    (err_before : s.err_before ≡ 0) (err_after : s.err_after ≡ 0) (few : given ≤ 6) (short : length (file_bytes questions) < most_passed)
+    (held : HeldSession told never told never detail changes version None from to questions s given) where
+  abbrev said : Outcome
+  said = session_answer detail changes version b (file_bytes questions)
+
+  abbrev IsHeldSo : Type 0
+  IsHeldSo = IsAnswered said s.out_old s.out_new s.err_old s.err_new given
+
+  not_held : IsRefused said s.err_old s.err_new s.err_before s.err_after given → IsHeldSo
+  not_held this = record {
+    output = nothing_written s.out_old s.out_new said.output first this.output (held.1.part refl b tell (file_bytes questions) refl short);
+    line = this.line.whole (still s.err_before s.err_after err_before err_after);
+    status = this.status;
+  }
+
+  not_read : (failed : Option Table) × FailsOr (Unread never detail from to s)
+      ((b : Bytes) → TellBytes told from b → (q : List ℕ) → IsRefused (session_answer detail changes version b q) s.err_old s.err_new s.err_before s.err_after given) failed → IsHeldSo
+  not_read (Some t, rose) = absurd (no_rise from to t rose.rises)
+  not_read (None, this) = not_held (this b tell (file_bytes questions))
+
+  session_left : IsHeldSo
+  session_left = elim (held_ends given held.1.status few) [
+    | inl none ↦ held.1.written refl none b tell (file_bytes questions) refl short
+    | inr others ↦ elim others [
+      | inl three ↦ elim (held.1.unread three) [ inl broke ↦ absurd (still 0 0 refl refl broke.rises) | inr this ↦ not_read this ]
+      | inr six ↦ absurd (still s.out_before s.out_after out_before out_after (held.1.output six).0)
+    ]
+  ]
+
 -- ---- the program
 
-module _ {Q : Type 0} (asked : Q → Option (List ℕ)) (fails : Q → ℕ) (questions : Q) (words : List Text) (files : Files) (s : Streams) (given : ℕ)
-    (out_before : s.out_before ≡ 0) (out_after : s.out_after ≡ 0) (err_before : s.err_before ≡ 0) (err_after : s.err_after ≡ 0) (few : given ≤ 6)
-    (task : Task) (b : Bytes) (asks : AsksOver words files task b) where
-  abbrev IsDoneSo : Type 0
-  IsDoneSo = IsAnswered (left_by task b) s.out_old s.out_new s.err_old s.err_new given
-
-  called : (call : Option Task) (line : Line) (changes : Option (List ℕ)) (from to : FiveTables MemFile) → call ≡ Some task → TellBytes told from b
-      → RanCall told never asked fails call line changes from to questions s given → IsDoneSo
-  called call line changes from to is tell ran =
-      job_left told never task from to s given b tell (no_rise from to) out_before out_after err_before err_after few
-      (subst (λ (c : Option Task). RanCall told never asked fails c line changes from to questions s given) is ran)
-
+module _ (questions : MemFile) (words : List Text) (files : Files) (s : Streams) (given : ℕ) (few : given ≤ 6) (b : Bytes) (over : SaysOver words files b)
+    (Done : Type 0) (call : Option Task) (is : task_in over.line over.file over.changes (detail_in over.line) ≡ call)
+    (done : (from to : FiveTables MemFile) → TellBytes told from b → RanCall told never told never call over.line over.changes from to questions s given → Done) where
   abbrev own : Line
-  own = asks.line
+  own = over.line
 
-  over_headers : RanHeaders told never asked fails questions own s given → IsDoneSo
+  abbrev Ran_so : Option Task → Option (List ℕ) → FiveTables MemFile → FiveTables MemFile → Type 0
+  Ran_so task changes from to = RanCall told never told never task own changes from to questions s given
+
+  called : (file : List ℕ) (changes : Option (List ℕ)) (from to : FiveTables MemFile) → file ≡ over.file → changes ≡ over.changes → TellBytes told from b
+      → Ran_so (task_in own file changes (detail_in own)) changes from to → Done
+  called file changes from to f c tell ran =
+      done from to tell (subst (λ (t : Option Task). Ran_so t over.changes from to) is
+      (subst (λ (x : Option (List ℕ)). Ran_so (task_in own over.file x (detail_in own)) x from to) c
+      (subst (λ (x : List ℕ). Ran_so (task_in own x changes (detail_in own)) changes from to) f ran)))
+
+  over_headers : RanHeaders told never told never questions own s given → Done
   over_headers ran =
-      let none = subst (λ t. needs t (HasFiles files own b asks.file asks.changes) b asks.file asks.changes) ran.untabled asks.there in
-      called (task_in own [] None (detail_in own)) own None ran.from ran.to
-      (ap (λ f. task_in own f None (detail_in own)) (sym none.1) ∙ ap (λ c. task_in own asks.file c (detail_in own)) (sym none.2) ∙ asks.asks)
-      (subst (TellBytes told ran.from) (sym none.0) ran.tells) ran.ran
+      let none = subst (λ t. needs t (HasFiles files own b over.file over.changes) b over.file over.changes) ran.untabled over.there in
+      called [] None ran.from ran.to (sym none.1) (sym none.2) (subst (TellBytes told ran.from) (sym none.0) ran.tells) ran.ran
 
-  over_files : is_tabled own.call ≡ true → EndsForLine (Opens files) (Refuses files) told never asked fails questions own s given → IsDoneSo
+  over_files : is_tabled own.call ≡ true → EndsForLine (Opens files) (Refuses files) told never told never questions own s given → Done
   over_files tabled ends =
-      let has = subst (λ t. needs t (HasFiles files own b asks.file asks.changes) b asks.file asks.changes) tabled asks.there in
+      let has = subst (λ t. needs t (HasFiles files own b over.file over.changes) b over.file over.changes) tabled over.there in
       elim ends [
         | inl unopened ↦ absurd (all_there files own.paths b has.tables unopened.table unopened.path unopened.named unopened.refused)
         | inr rest ↦ elim rest [
-          | inl lacks ↦ absurd (can_be_had files lacks.path (beside_held files own b asks.file asks.changes has lacks.of lacks.path lacks.named) lacks.why lacks.because
+          | inl lacks ↦ absurd (can_be_had files lacks.path (beside_held files own b over.file over.changes has lacks.of lacks.path lacks.named) lacks.why lacks.because
               lacks.of (detail_in own) _ given lacks.told few)
           | inr opened ↦
-              called (task_in own opened.file opened.changes (detail_in own)) own opened.changes opened.from opened.to
-              (ap (λ f. task_in own f opened.changes (detail_in own)) (same_own files (file_called own.call) asks.file opened.file has.own opened.held)
-              ∙ ap (λ c. task_in own asks.file c (detail_in own)) (same_changes files own.changes asks.changes opened.changes has.changed opened.changed) ∙ asks.asks)
-              (tells files own.paths b opened.from has.tables opened.files) opened.ran
+              called opened.file opened.changes opened.from opened.to (same_own files (file_called own.call) over.file opened.file has.own opened.held)
+              (same_changes files own.changes over.changes opened.changes has.changed opened.changed) (tells files own.paths b opened.from has.tables opened.files) opened.ran
         ]
       ]
 
   abbrev Ends : Line → Type 0
-  Ends line = EndsLine (RanHeaders told never asked fails questions line s given) (EndsForLine (Opens files) (Refuses files) told never asked fails questions line s given) line
+  Ends line = EndsLine (RanHeaders told never told never questions line s given) (EndsForLine (Opens files) (Refuses files) told never told never questions line s given) line
 
-  over_line : Ends own → IsDoneSo
+  over_line : Ends own → Done
   over_line (inl ran) = over_headers ran
   over_line (inr ends) = over_files ends.0 ends.1
 
-  over_words : EndsForWords Ends words s given → IsDoneSo
+  over_words : EndsForWords Ends words s given → Done
   over_words ends = elim ends [
     | inl helped ↦ absurd (elim helped.asked [ inl h ↦ none_among _ h | inr h ↦ none_among _ h ])
     | inr rest ↦ elim rest [
       | inl misworded ↦ absurd (none_among misworded.kind misworded.among)
       | inr later ↦ elim later [
         | inl memory ↦ absurd (omega (arith, few, memory.status))
-        | inr said ↦ over_line (subst Ends (same_said (named words) said.line own said.says asks.says) said.ends)
+        | inr said ↦ over_line (subst Ends (same_said (named words) said.line own said.says over.says) said.ends)
       ]
     ]
   ]
     where
       none_among : (kind : ErrorKind) → IsAmong kind (faults words) → ⊥
-      none_among kind among = subst (λ (kinds : Kinds). IsAmong kind kinds) asks.fine among
+      none_among kind among = subst (λ (kinds : Kinds). IsAmong kind kinds) over.fine among
 
-  -- what the program leaves is the answer to what the words ask
-  pub program_left : {gives : List Text → Type 0} {Sample : Type 0} → ((given : List Text) → gives given → given ≡ words) → EndsProgram gives ⊥ Sample Ends s given → IsDoneSo
+  -- what the program leaves is what was done for the line that the words say
+  pub program_left : {gives : List Text → Type 0} {Sample : Type 0} → ((given : List Text) → gives given → given ≡ words) → EndsProgram gives ⊥ Sample Ends s given → Done
   program_left same ends = elim ends [
     | inl garbled ↦ absurd garbled.0
     | inr rest ↦ elim rest [
@@ -324,6 +367,31 @@ module _ {Q : Type 0} (asked : Q → Option (List ℕ)) (fails : Q → ℕ) (que
     ]
   ]
     where
-      by_words : {Sample : Type 0} → EndsGiven Sample Ends words s given → IsDoneSo
-      by_words (inl sample) = absurd (omega (arith, sample.0, asks.some))
+      by_words : {Sample : Type 0} → EndsGiven Sample Ends words s given → Done
+      by_words (inl sample) = absurd (omega (arith, sample.0, over.some))
       by_words (inr ends) = over_words ends.1
+
+module _ (questions : MemFile) (words : List Text) (files : Files) (s : Streams) (given : ℕ) (first : s.out_old ≡ Some []) (out_before : s.out_before ≡ 0)
+    (out_after : s.out_after ≡ 0) (err_before : s.err_before ≡ 0) (err_after : s.err_after ≡ 0) (few : given ≤ 6) (b : Bytes) where
+  abbrev EndsSo : Line → Type 0
+  EndsSo line = EndsLine (RanHeaders told never told never questions line s given) (EndsForLine (Opens files) (Refuses files) told never told never questions line s given) line
+
+  -- where they ask for a task: its answer
+  pub task_left : {gives : List Text → Type 0} {Sample : Type 0} → ((given : List Text) → gives given → given ≡ words) → (task : Task) → AsksOver words files task b
+      → EndsProgram gives ⊥ Sample EndsSo s given → IsAnswered (left_by task b) s.out_old s.out_new s.err_old s.err_new given
+  task_left same task asks =
+      program_left questions words files s given few b asks.over _ (Some task) asks.asks
+      (λ from to tell ran. job_left told never task from to s given b tell (no_rise from to) out_before out_after err_before err_after few ran) same
+
+  -- where they ask for a session: its answers
+  pub session_held : {gives : List Text → Type 0} {Sample : Type 0} → ((given : List Text) → gives given → given ≡ words) → (holds : HoldsOver words files b)
+      → (lines : List ℕ) → file_bytes questions ≡ lines → length lines < most_passed → EndsProgram gives ⊥ Sample EndsSo s given
+      → IsAnswered (held_by holds lines) s.out_old s.out_new s.err_old s.err_new given
+  session_held same holds lines is short ends =
+      let few_bytes : length (file_bytes questions) < most_passed = rw is short in
+      subst (λ (q : List ℕ). IsAnswered (held_by holds q) s.out_old s.out_new s.err_old s.err_new given) is
+      (program_left questions words files s given few b holds.over _ None holds.asks
+      (λ from to tell ran. session_left questions (detail_in holds.over.line) holds.over.changes holds.over.line.version from to s given b tell first out_before out_after
+      err_before err_after few few_bytes
+      (subst (λ (n : Option ℕ). HeldSession told never told never (detail_in holds.over.line) holds.over.changes holds.over.line.version n from to questions s given) holds.whole ran))
+      same ends)

@@ -9,6 +9,7 @@ use Rattle.ac_run.specs.Feeds.{Bytes, is_long, is_long_there}
 use Rattle.ac_run.specs.Notes.{noted}
 use Rattle.ac_query.specs.declared.version.Version.TheVariants.{V136}
 use Rattle.ac_run.specs.Tasks.{Paths, Task, check}
+use Rattle.ac_session.specs.Sessions.{session_answer}
 use Rattle.ac_words.specs.Words.{Line, Says, faults, file_called, is_tabled, named, paths_in, task_in}
 use Rattle.ac_cli.specs.Program.{detail_in, header_bytes, note_behind}
 use Rattle.ac_cli.specs.declared.memory.Left.{Left}
@@ -57,8 +58,8 @@ abbrev pub needs : Bool → Type 0 → Bytes → List ℕ → Option (List ℕ) 
 needs true Needed b file changes = Needed
 needs false Needed b file changes = (b ≡ header_bytes) × (file ≡ []) × (changes ≡ None)
 
--- Words ask for a task over the bytes of five tables: they have no fault, they say a line that calls for it, and what that needs is there.
-pub record AsksOver (words : List Text) (files : Files) (task : Task) (b : Bytes) : Type 0 where
+-- Words say a line over tables of these bytes: they have no fault, and what the line needs is there.
+pub record SaysOver (words : List Text) (files : Files) (b : Bytes) : Type 0 where
   pub some : 2 ≤ length words
   pub fine : faults words ≡ []
   pub line : Line
@@ -66,7 +67,17 @@ pub record AsksOver (words : List Text) (files : Files) (task : Task) (b : Bytes
   pub file : List ℕ
   pub changes : Option (List ℕ)
   pub there : needs (is_tabled line.call) (HasFiles files line b file changes) b file changes
-  pub asks : task_in line file changes (detail_in line) ≡ Some task
+
+-- They ask for this task.
+pub record AsksOver (words : List Text) (files : Files) (task : Task) (b : Bytes) : Type 0 where
+  pub over : SaysOver words files b
+  pub asks : task_in over.line over.file over.changes (detail_in over.line) ≡ Some task
+
+-- They ask for a session, whose searches have no bound.
+pub record HoldsOver (words : List Text) (files : Files) (b : Bytes) : Type 0 where
+  pub over : SaysOver words files b
+  pub asks : task_in over.line over.file over.changes (detail_in over.line) ≡ None
+  pub whole : over.line.tries ≡ None
 
 -- words that ask for the sizes of the tables in a folder, and their task
 abbrev pub asks_sizes : List Text
@@ -84,6 +95,10 @@ WordsAsk = (files : Files) (b : Bytes) → HasTables files (paths_in (codes "clo
 -- the answer to a task, and behind its line what is told then
 abbrev pub left_by : Task → Bytes → Outcome
 left_by task b = record (answer task b) { line = (answer task b).line ++ note_behind task.command task.detail (answer task b).status (noted task b) }
+
+-- the answers of a session to these lines
+abbrev pub held_by : {words : List Text} {files : Files} {b : Bytes} → HoldsOver words files b → List ℕ → Outcome
+held_by {words} {files} {b} holds questions = session_answer (detail_in holds.over.line) holds.over.changes holds.over.line.version b questions
 
 -- it is left: its output, its text on the error stream, and its status
 pub record IsLeft (outcome : Outcome) (left : Left) : Type 0 where

@@ -4,7 +4,8 @@ ghost use Rattle.std.specs.Str.{bytes_eq};
 ghost use Rattle.ac_base.specs.Devices.{PullGives, PushTakes, breaks_after_pull, breaks_after_push, failures_after_pull, failures_after_push};
 ghost use Rattle.ac_run.specs.Feeds.{Bytes};
 ghost use Rattle.ac_run.specs.Tasks.{Task};
-ghost use Rattle.ac_cli.specs.InMemory.{AsksOver, IsLeft, WordsAsk, bytes_at, file_bytes, files_shown, left_by, words_shown};
+ghost use Rattle.ac_cli.specs.InMemory.{AsksOver, HoldsOver, IsLeft, WordsAsk, bytes_at, file_bytes, files_shown, held_by, left_by, words_shown};
+ghost use Rattle.ac_session.specs.Lines.{most_passed};
 ghost use Rattle.ac_cli.specs.declared.host.Unworded.TheVariants as Unworded;
 
 use crate::host::{Host, Unworded};
@@ -174,9 +175,12 @@ pub fn answer_in_memory(
     files: &[(&str, &[u8])],
     questions: &[u8],
 ) -> Option<Left>
-    ensures { IfSome result (λ left. (task : Task) (b : Bytes)
+    ensures task { IfSome result (λ left. (task : Task) (b : Bytes)
         → AsksOver (words_shown words.now) (files_shown files.now) task b
         → IsLeft (left_by task b) left) }
+    ensures session { length questions.now < most_passed → IfSome result (λ left. (b : Bytes)
+        (holds : HoldsOver (words_shown words.now) (files_shown files.now) b)
+        → IsLeft (held_by holds questions.now) left) }
 {
     let host = MemHost {
         alloc,

@@ -1,18 +1,34 @@
-use Rattle.std.proofs.Common.{◌∙◌, ◌++◌, ap, arith}
+use Rattle.std.proofs.Common.{◌∙◌, ◌++◌, Some, ap, arith}
 use Rattle.std.proofs.lemmas.Bool.Decides.{nat_tests}
-use Rattle.ac_cli.specs.InMemory.{files_shown, left_by, words_shown}
-use Rattle.ac_cli.proofs.InMemory.{program_left}
+use Rattle.ac_cli.specs.InMemory.{files_shown, held_by, left_by, words_shown}
+use Rattle.ac_cli.proofs.InMemory.{session_held, task_left}
 use Rattle.ac_cli.proofs.memory.answer_in_memory.Goals as goal
 
-pub returns : goal.returns
-returns c = λ task b asks.
+pub returns-clause-task : goal.returns-clause-task
+returns-clause-task c = λ task b asks.
     let small = c.if-status-gt6.false in
     let out_whole = c.if-out-gt0.false in
     let err_whole = c.if-err-gt0.false in
-    let done = program_left _ _ _ (words_shown c.args.words.now) (files_shown c.args.files.now) _ _ c.new.ensures.failures (grind (arith, nat_tests, out_whole))
-    c.new-err.ensures.failures (grind (arith, nat_tests, err_whole)) (grind (arith, nat_tests, small)) task b asks (λ given is. is) c.answer-status.ensures in
+    let left = task_left c.new-questions.result (words_shown c.args.words.now) (files_shown c.args.files.now) _ _ (ap Some c.new.ensures.bytes) c.new.ensures.failures
+    (grind (arith, nat_tests, out_whole)) c.new-err.ensures.failures (grind (arith, nat_tests, err_whole)) (grind (arith, nat_tests, small)) b (λ given is. is) task asks
+    c.answer-status.ensures in
     record {
-      output = done.output ∙ ap (λ l. l ++ (left_by task b).output) c.new.ensures.bytes;
-      errors = done.line ∙ ap (λ l. l ++ (left_by task b).line) c.new-err.ensures.bytes;
-      status = done.status;
+      output = left.output ∙ ap (λ l. l ++ (left_by task b).output) c.new.ensures.bytes;
+      errors = left.line ∙ ap (λ l. l ++ (left_by task b).line) c.new-err.ensures.bytes;
+      status = left.status;
+    }
+
+pub returns-clause-session : goal.returns-clause-session
+returns-clause-session c = λ short b holds.
+    let small = c.if-status-gt6.false in
+    let out_whole = c.if-out-gt0.false in
+    let err_whole = c.if-err-gt0.false in
+    let lines = c.args.questions.now in
+    let left = session_held c.new-questions.result (words_shown c.args.words.now) (files_shown c.args.files.now) _ _ (ap Some c.new.ensures.bytes) c.new.ensures.failures
+    (grind (arith, nat_tests, out_whole)) c.new-err.ensures.failures (grind (arith, nat_tests, err_whole)) (grind (arith, nat_tests, small)) b (λ given is. is) holds lines
+    c.new-questions.ensures short c.answer-status.ensures in
+    record {
+      output = left.output ∙ ap (λ l. l ++ (held_by holds lines).output) c.new.ensures.bytes;
+      errors = left.line ∙ ap (λ l. l ++ (held_by holds lines).line) c.new-err.ensures.bytes;
+      status = left.status;
     }

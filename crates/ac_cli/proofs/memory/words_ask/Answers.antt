@@ -11,12 +11,14 @@ pub returns : goal.returns
 unfolding clap_on_literals name_read named faults call_of table_name
 returns c = λ files b has.
     record {
-      some = omega arith;
-      fine = refl;
-      line = record { call = job check []; version = V136; tries = None; changes = None; detail = false; paths = paths_in (codes "cloud") };
-      says = record { call = refl; version = refl; tries = refl; changes = refl; detail = refl; paths = refl };
-      file = [];
-      changes = None;
-      there = record { tables = has; own = refl; few = refl; changed = tt; few_changes = refl };
+      over = record {
+        some = omega arith;
+        fine = refl;
+        line = record { call = job check []; version = V136; tries = None; changes = None; detail = false; paths = paths_in (codes "cloud") };
+        says = record { call = refl; version = refl; tries = refl; changes = refl; detail = refl; paths = refl };
+        file = [];
+        changes = None;
+        there = record { tables = has; own = refl; few = refl; changed = tt; few_changes = refl };
+      };
       asks = refl;
     }
