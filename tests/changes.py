@@ -8,7 +8,7 @@ from dataclasses import replace
 
 from cases import AUDIT_HEAD, CHILD, ONE, SHARED, SOME, Case, lines, tables
 from large import MOST_BYTES
-from model import AGGREGATES, CLASSES, SHARES, TRAITS, asked, draw_cloud, draw_query, judgement
+from model import AGGREGATES, CLASSES, SHARES, TRAITS, Provider, asked, draw_cloud, draw_query, judgement
 from notation import HEADERS, full
 
 DISABLED = 'COMPUTE_STATUS_DISABLED'
@@ -25,9 +25,28 @@ def touched(cloud, where):
     return [provider for provider in cloud if where in ('*', provider.name)]
 
 
+def grown(cloud, count, host):
+    """The cloud with so many trees more like a host's, which stand in the order of UUIDs behind all others, with nothing used."""
+    tree = sorted((one for one in cloud if one.root() is host.root()), key=number)
+    for _ in range(count):
+        last = max(map(number, cloud))
+        copies = {one.name: f'P{last + place}' for place, one in enumerate(tree, 1)}
+        made = {one.name: Provider(copies[one.name], None, {name: replace(inventory, used=0) for name, inventory in one.has.items()}, set(one.traits), set(one.aggregates)) for one in tree}
+        for one in tree:
+            made[one.name].parent = one.parent and made[one.parent.name]
+        cloud = [*cloud, *made.values()]
+    return cloud
+
+
+def number(provider):
+    return int(provider.name[1:])
+
+
 def left(cloud, words):
     """The cloud that a line leaves, or None where it would reserve more than there is. Its providers are changed in place."""
     match words:
+        case ['add', count, 'like', name]:
+            return grown(cloud, int(count), next(provider for provider in cloud if provider.name == name))
         case ['remove', host]:
             root = next(provider.root().name for provider in cloud if provider.name == host)
             return [provider for provider in cloud if provider.root().name != root]
@@ -54,7 +73,7 @@ def draw_line(chance, cloud):
     where = chance.choice([host, host, '*', 'in:' + chance.choice(AGGREGATES)])
     mark = chance.choice('+-')
     return chance.choice([
-        ['disable', host], ['enable', host], ['remove', host],
+        ['disable', host], ['enable', host], ['remove', host], ['add', chance.choice('011'), 'like', host],
         ['trait', where, mark + chance.choice([*TRAITS, SHARES])],
         ['aggregate', where, mark + chance.choice(AGGREGATES)],
         ['set', where, chance.choice(CLASSES), *chance.choice([
@@ -92,11 +111,15 @@ def drawn_changes(number, seed=1):
 
 NAMED = 'P1 | | VCPU total 8 | | | one\nP2 | P1 | MEMORY_MB total 64 | | A1 | two\nP3 | | VCPU total 4 | | | *\nP4 | | VCPU total 2, used 1 | | | two'
 TWO = 'resources=VCPU:2'
-BAD_LINES = ('disable', 'disable P1 P2', 'Disable P1', 'enable', 'remove', 'remove P1 P1', 'add 1 like P1', 'set P1 VCPU total', 'set P1 VCPU total 8 8', 'set P1 vcpu total 8',
+BAD_LINES = ('disable', 'disable P1 P2', 'Disable P1', 'enable', 'remove', 'remove P1 P1', 'add P1', 'add 1 P1', 'add 1 as P1', 'add 1 like', 'add -1 like P1', 'add 1 like P1 P1', 'add x like P1', 'add 2147483648 like P1', 'set P1 VCPU total', 'set P1 VCPU total 8 8', 'set P1 vcpu total 8',
              'set P1 VCPU used 8', 'set P1 VCPU total -1', 'set P1 VCPU total 8.0', 'set P1 VCPU total 2147483648', 'set P1 VCPU step_size 0', 'set P1 VCPU allocation_ratio 1e3',
              'set in:one VCPU total 8', 'trait P1 CUSTOM_A', 'trait P1 +custom_a', 'trait P1 +', 'trait P1 + CUSTOM_A', 'trait in: +CUSTOM_A', 'aggregate P1 +one', 'aggregate P1 A1', '\0')
-REMEDY = ('  A line is disable HOST, enable HOST, remove HOST, set WHERE CLASS FIELD VALUE, trait WHERE +NAME or aggregate WHERE +UUID, with - where it is to go; '
+REMEDY = ('  A line is disable HOST, enable HOST, remove HOST, add N like HOST, set WHERE CLASS FIELD VALUE, trait WHERE +NAME or aggregate WHERE +UUID, with - where it is to go; '
           'WHERE is a provider, * or in:AGGREGATE.\n')
+
+
+HIGH = 'ffffffff-ffff-ffff-ffff-fffffffffff'
+TOO_MANY = 'change: line 1: TooManyProviders\n'
 
 
 def changed(name, cloud, change, query, *answers):
@@ -120,6 +143,13 @@ BY_HAND = [
     changed('a tree is gone', NAMED, 'remove P2', TWO, 'P3'),
     changed('by its name', NAMED, 'remove one', TWO, 'P3'),
     changed('a name is no scope', NAMED, 'remove *', TWO, 'P1'),
+    changed('a tree more', NAMED, 'add 1 like P4', TWO, 'P1', 'P3', 'P5'),
+    changed('two trees more, of a child', NAMED, 'add 2 like P2', 'resources1=VCPU:2&resources2=MEMORY_MB:64&group_policy=none&same_subtree=1,2', 'P1,P2', 'P5,P6', 'P7,P8'),
+    changed('more of what was added', NAMED, 'add 1 like P3\nadd 1 like P5\nset P6 VCPU total 9\nset P6 VCPU max_unit 9', 'resources=VCPU:9', 'P6'),
+    changed('in the same aggregates', SHARED, 'remove P3\nadd 1 like P1', 'resources=DISK_GB:10,VCPU:2', 'P9,P1', 'P9,P10'),
+    changed('no tree more', NAMED, 'add 0 like P1', TWO, 'P1', 'P3'),
+    changed('a tree more, and gone again', NAMED, 'add 1 like P4\nremove P5', TWO, 'P1', 'P3'),
+    changed('names of trees that are added', NAMED, 'add 2 like one\nremove one+2\ndisable one+1', f'{TWO}&root_required={DISABLED}', 'P5'),
     changed('a number of all', NAMED, 'set * VCPU max_unit 3', 'resources=VCPU:3', 'P1', 'P3'),
     changed('a number of the trees of an aggregate', NAMED, f'set in:A1 VCPU total 9\nset in:A1 VCPU max_unit 9', 'resources=VCPU:9', 'P1'),
     changed('a number of a class that is not there', NAMED, 'set P2 VCPU total 9', TWO, 'P1', 'P3'),
@@ -138,6 +168,9 @@ BY_HAND = [
     refused('remove P1\nenable P1', 'UnknownHost', 2), refused('trait P9 -CUSTOM_A', 'UnknownHost'), refused('set P9 VCPU total 1', 'UnknownHost'),
     refused('disable two', 'AmbiguousHost', cloud=NAMED), refused('disable two', 'AmbiguousHost', cloud=NAMED, detail='  Several providers have this name; write the UUID of one.\n'),
     refused('set * VCPU reserved 8\nset * VCPU total 7', 'ReservedOverTotal', 2), refused('set * VCPU reserved 9', 'ReservedOverTotal', detail='  More would be reserved than there is.\n'),
+    refused('add 65536 like P1', 'TooManyProviders'), refused('add 65535 like P1\nadd 0 like P1\nadd 1 like P1', 'TooManyProviders', 3),
+    refused('add 32768 like P2', 'TooManyProviders', cloud=CHILD, detail='  There would be more than 65536 providers, or no UUID is left behind the greatest.\n'),
+    refused('add 65536 like P9', 'UnknownHost'), refused('add 1 like two', 'AmbiguousHost', cloud=NAMED),
     refused('enable P1\nwhat if', 'BadLine', 2, detail=REMEDY), refused('disable P9\nwhat if', 'BadLine', 2), refused('\n' * 70000 + 'x', 'BadLine', 70001),
     beside('behind a fault of the tables', ['check'], 'providers: record 1: MissingColumn\n', 3, providers='uuid\n', change='x\n'),
     beside('before a fault of the query', ['tokens', 'limit=0'], 'change: line 1: BadLine\n', 3, change='x\n'),
@@ -147,6 +180,9 @@ BY_HAND = [
     beside('a folder, in detail', ['check', '--change', 'docs', '--detail'], SOME, 3),
     Case('change: check counts what is left', ['check'], 'providers 2\ninventories 2\nusages 2\ntraits 2\naggregates 1\n',
          tables={**tables(NAMED), 'change': full('remove P1\ntrait P3 +CUSTOM_A\ntrait P4 +CUSTOM_A\naggregate P4 +A2')}),
+    Case('change: as many as there may be', ['check'], 'providers 65536\ninventories 65536\nusages 65536\ntraits 0\naggregates 0\n', tables={**tables(ONE), 'change': full('add 65535 like P1')}),
+    *(Case(f'change: behind {last}', ['tokens', TWO], out, err, status, {'providers': f'{HEADERS["providers"]}{last},{last},\n', 'inventories': f'{HEADERS["inventories"]}{last},VCPU,8,0,1,8,1,1.0\n', 'change': f'add 1 like {last}'})
+      for last, out, err, status in ((HIGH + 'd', f'{HIGH}d\n{HIGH}e\n', '', 0), (HIGH + 'e', '', TOO_MANY, 3), (HIGH + 'f', '', TOO_MANY, 3))),
     Case('change: audit', ['audit'], full(AUDIT_HEAD + 'never fits,P1,,"PCPU: min_unit 9, max_unit 8, step_size 1, capacity 8"\n'), status=1,
          tables={**tables('P1 | | PCPU total 8, used 0'), 'change': 'set * PCPU min_unit 9'}),
     Case('change: a session begins with what is left', ['session'], full('P2\n= 0\n= 5 host: Unknown\nno: rule 1 Units\n= 1\n'), given=full('tokens resources=VCPU:2\nleft P1\nverify resources=VCPU:9 P2\n').encode(),

@@ -35,6 +35,13 @@ impl Id {
         }
     }
 
+    /// The UUID of a number.
+    pub fn from_u128(number: u128) -> Id
+        ensures { result ≡ number }
+    {
+        Id { number }
+    }
+
     /// The number, as `uuid` has it.
     pub fn as_u128(&self) -> u128
         ensures { result ≡ self.now }

@@ -17,6 +17,7 @@ use Rattle.ac_cloud.specs.Trees.{top}
 use Rattle.ac_cloud.specs.World.{Provider, Sizes, UsedInventory}
 use Rattle.ac_cloud.specs.declared.cloud.entry.Entry.{Entry}
 use Rattle.ac_change.specs.Changes.{counted, sizes_told}
+use Rattle.ac_change.specs.Copies.{AreListed}
 use Rattle.ac_change.specs.Drafts.{AreWhole, all_held}
 use Rattle.ac_change.specs.Held.{provider_held}
 use Rattle.ac_change.specs.Trees.{ids_in}
@@ -42,6 +43,15 @@ traits_built list traits is = made (λ names. IsStrictlySortedBy text_cmp (map t
 
 pub aggregates_built : (list : List Held) (aggregates : List (List ℕ)) → aggregates ≡ map (λ h. h.aggregates.items) list → All (λ all. IsStrictlySortedBy nat_cmp all) aggregates
 aggregates_built list aggregates is = made (λ all. IsStrictlySortedBy nat_cmp all) (λ h. h.aggregates.items) list aggregates (λ h. h.aggregates_rise) is
+
+-- the ids that are listed are those that are held
+pub listed_here : (list : List Held) (ids : List ℕ) → AreListed list ids → ids ≡ map (λ h. h.id) list
+unfolding AreListed all_held
+listed_here list ids listed = listed ∙ map-map (λ (p : Provider). p.id) provider_held list
+
+pub listed_again : (list : List Held) (ids : List ℕ) → ids ≡ map (λ h. h.id) list → AreListed list ids
+unfolding AreListed all_held
+listed_again list ids are = are ∙ sym (map-map (λ (p : Provider). p.id) provider_held list)
 
 module _ (list : List Held) (ids : List ℕ) (ids_are : ids ≡ map (λ h. h.id) list) where
   all_ids : ids ≡ ids_in (all_held list)

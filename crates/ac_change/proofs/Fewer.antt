@@ -1,4 +1,4 @@
--- The providers without one tree: the other trees stay as they are.
+-- The providers of some trees, those whose roots pass a test: these trees stay as they are.
 use Rattle.ac_change.proofs.Common.{All, IfSome, ◌≡◌, ◌≢◌, ◌<◌, ◌≤◌, ◌^◌, ◌+◌, ◌-◌, ◌∙◌, ◌∷◌, ◌++◌, ◌==◌, ℕ, zero, suc, Bool, true, false, List, [], Option, Some, None, not, filter, length, get_or, nat_cmp, refl, ap, sym, subst, inl, inr, arith, if◌then◌else◌, is_some, list_any, option_and_then, unwrap_or, cases_Bool, length-map, append_assoc}
 use Rattle.std.specs.Prelude.{find}
 use Rattle.std.specs.List.{AllByRecursion, IsDistinct, position_from}
@@ -17,7 +17,6 @@ use Rattle.ac_cloud.proofs.Roots.{stays}
 use Rattle.ac_cloud.specs.Cloud.RisingIds.{IsRising}
 use Rattle.ac_cloud.specs.Trees.{climb, up}
 use Rattle.ac_cloud.specs.World.{Provider, no_provider, provider_at, id_at, is_provider, parent_of, place_of, root_of}
-use Rattle.ac_change.specs.Changes.{without_tree}
 use Rattle.ac_change.specs.Laws.{OtherTreesStay}
 use Rattle.ac_change.specs.Trees.{AreTrees, ids_in}
 use Rattle.ac_change.proofs.Forests.{place_some, ranked}
@@ -79,7 +78,7 @@ climb_last : (f : ℕ → ℕ) (k p : ℕ) → climb f k (f p) ≡ f (climb f k 
 climb_last f zero p = refl
 climb_last f (suc k) p = climb_last f k (f p)
 
-climb_more : (f : ℕ → ℕ) (a b p : ℕ) → climb f a (climb f b p) ≡ climb f (b + a) p
+pub climb_more : (f : ℕ → ℕ) (a b p : ℕ) → climb f a (climb f b p) ≡ climb f (b + a) p
 climb_more f a zero p = let same : a ≡ 0 + a = omega arith in ap (λ (n : ℕ). climb f n p) same
 climb_more f a (suc b) p = let same : suc (b + a) ≡ suc b + a = omega arith in climb_more f a b (f p) ∙ ap (λ (n : ℕ). climb f n p) same
 
@@ -124,10 +123,6 @@ firsts P Q (x ∷ xs) all = (all.0.0, firsts P Q xs all.1)
 pub at_all : (P : Provider → Type 0) (xs : List Provider) → ((ix : ℕ) → ix < length xs → P (get_or xs ix no_provider)) → AllByRecursion P xs
 at_all P [] holds = tt
 at_all P (x ∷ xs) holds = (holds zero (omega arith), at_all P xs (λ (ix : ℕ) (h : ix < length xs). holds (suc ix) (omega arith)))
-
-not_so : (b : Bool) → not b ≡ true → b ≡ false
-not_so true h = absurd (cc)
-not_so false h = refl
 
 -- ---- one list of providers and its trees
 module _ (all : List Provider) where
@@ -179,28 +174,32 @@ module _ (all : List Provider) where
   distinct zero p some ends = (tt, tt)
   distinct (suc k) p some ends = (away p 0 k (goes_on (suc k) p some) ends, distinct k (up (parent_of all) p) some (ends_up p ends))
 
-  module _ (r : ℕ) where
-    kept_id : (id : ℕ) → (root_of all id == r) ≡ false → (p : Provider) → (p.id == id) ≡ true → not (root_of all p.id == r) ≡ true
-    kept_id id other p e = ap (λ (x : ℕ). not (root_of all x == r)) (are_equal p.id id e) ∙ ap not other
+  module _ (keep : ℕ → Bool) where
+    -- those of the trees whose roots are kept
+    abbrev kept : List Provider
+    kept = filter (λ p. keep (root_of all p.id)) all
 
-    parent_left : (id : ℕ) → (root_of all id == r) ≡ false → parent_of (without_tree all r) id ≡ parent_of all id
-    parent_left id other =
-        parent_found (without_tree all r) id
-        ∙ ap (option_and_then (λ (p : Provider). p.parent)) (find_kept (is_provider id) (λ p. not (root_of all p.id == r)) all (kept_id id other))
+    kept_id : (id : ℕ) → keep (root_of all id) ≡ true → (p : Provider) → (p.id == id) ≡ true → keep (root_of all p.id) ≡ true
+    kept_id id passes p e = ap (λ (x : ℕ). keep (root_of all x)) (are_equal p.id id e) ∙ passes
+
+    parent_left : (id : ℕ) → keep (root_of all id) ≡ true → parent_of kept id ≡ parent_of all id
+    parent_left id passes =
+        parent_found kept id
+        ∙ ap (option_and_then (λ (p : Provider). p.parent)) (find_kept (is_provider id) (λ p. keep (root_of all p.id)) all (kept_id id passes))
         ∙ sym (parent_found all id)
 
-    other_up : (id : ℕ) → (root_of all id == r) ≡ false → Ends id → (root_of all (up (parent_of all) id) == r) ≡ false
-    other_up id other ends = ap (λ (x : ℕ). x == r) (root_up id ends) ∙ other
+    passes_up : (id : ℕ) → keep (root_of all id) ≡ true → Ends id → keep (root_of all (up (parent_of all) id)) ≡ true
+    passes_up id passes ends = ap keep (root_up id ends) ∙ passes
 
-    climb_left : (k id : ℕ) → (root_of all id == r) ≡ false → Ends id → climb (up (parent_of (without_tree all r))) k id ≡ climb (up (parent_of all)) k id
-    climb_left zero id other ends = refl
-    climb_left (suc k) id other ends =
-        ap (λ (o : Option ℕ). climb (up (parent_of (without_tree all r))) k (unwrap_or o id)) (parent_left id other)
-        ∙ climb_left k (up (parent_of all) id) (other_up id other ends) (ends_up id ends)
+    climb_left : (k id : ℕ) → keep (root_of all id) ≡ true → Ends id → climb (up (parent_of kept)) k id ≡ climb (up (parent_of all)) k id
+    climb_left zero id passes ends = refl
+    climb_left (suc k) id passes ends =
+        ap (λ (o : Option ℕ). climb (up (parent_of kept)) k (unwrap_or o id)) (parent_left id passes)
+        ∙ climb_left k (up (parent_of all) id) (passes_up id passes ends) (ends_up id ends)
 
-    other_climb : (k id : ℕ) → (root_of all id == r) ≡ false → Ends id → (root_of all (climb (up (parent_of all)) k id) == r) ≡ false
-    other_climb zero id other ends = other
-    other_climb (suc k) id other ends = other_climb k (up (parent_of all) id) (other_up id other ends) (ends_up id ends)
+    passes_climb : (k id : ℕ) → keep (root_of all id) ≡ true → Ends id → keep (root_of all (climb (up (parent_of all)) k id)) ≡ true
+    passes_climb zero id passes ends = passes
+    passes_climb (suc k) id passes ends = passes_climb k (up (parent_of all) id) (passes_up id passes ends) (ends_up id ends)
 
     module _ (trees : AreTrees all) where
       listed_up : (id : ℕ) → list_any (eq_by_cmp nat_cmp id) (ids_in all) ≡ true → list_any (eq_by_cmp nat_cmp (up (parent_of all) id)) (ids_in all) ≡ true
@@ -213,40 +212,40 @@ module _ (all : List Provider) where
           by_parent None e known = ap (λ (o : Option ℕ). list_any (eq_by_cmp nat_cmp (unwrap_or o id)) (ids_in all)) e ∙ there
           by_parent (Some q) e known = ap (λ (o : Option ℕ). list_any (eq_by_cmp nat_cmp (unwrap_or o id)) (ids_in all)) e ∙ sym (listed all q 0) ∙ known
 
-      here_left : (id : ℕ) → list_any (eq_by_cmp nat_cmp id) (ids_in all) ≡ true → (root_of all id == r) ≡ false → list_any (eq_by_cmp nat_cmp id) (ids_in (without_tree all r)) ≡ true
-      here_left id there other = listed_kept (λ p. not (root_of all p.id == r)) id all (kept_id id other) there
+      here_left : (id : ℕ) → list_any (eq_by_cmp nat_cmp id) (ids_in all) ≡ true → keep (root_of all id) ≡ true → list_any (eq_by_cmp nat_cmp id) (ids_in kept) ≡ true
+      here_left id there passes = listed_kept (λ p. keep (root_of all p.id)) id all (kept_id id passes) there
 
-      members : (k id : ℕ) → list_any (eq_by_cmp nat_cmp id) (ids_in all) ≡ true → (root_of all id == r) ≡ false → Ends id
-          → AllByRecursion (λ (y : ℕ). list_any (eq_by_cmp nat_cmp y) (ids_in (without_tree all r)) ≡ true) (run k id)
-      members zero id there other ends = (here_left id there other, tt)
-      members (suc k) id there other ends = (here_left id there other, members k (up (parent_of all) id) (listed_up id there) (other_up id other ends) (ends_up id ends))
+      members : (k id : ℕ) → list_any (eq_by_cmp nat_cmp id) (ids_in all) ≡ true → keep (root_of all id) ≡ true → Ends id
+          → AllByRecursion (λ (y : ℕ). list_any (eq_by_cmp nat_cmp y) (ids_in kept) ≡ true) (run k id)
+      members zero id there passes ends = (here_left id there passes, tt)
+      members (suc k) id there passes ends = (here_left id there passes, members k (up (parent_of all) id) (listed_up id there) (passes_up id passes ends) (ends_up id ends))
 
       -- so many providers of a chain, and one more, are no more than there are
-      fits : (k id : ℕ) → list_any (eq_by_cmp nat_cmp id) (ids_in all) ≡ true → (root_of all id == r) ≡ false → Ends id → is_some (parent_of all (climb (up (parent_of all)) k id)) ≡ true
-          → k + 1 ≤ length (without_tree all r)
-      fits k id there other ends some =
-          let le = length-le_from_is_member (eq_by_cmp_equiv nat_cmp_total) (run k id) (ids_in (without_tree all r)) (distinct k id some ends)
-          (λ q h. among (λ (y : ℕ). list_any (eq_by_cmp nat_cmp y) (ids_in (without_tree all r)) ≡ true) q (run k id) (members k id there other ends) h) in
-          omega (arith, le, run_size k id, length-map (without_tree all r) (λ (p : Provider). p.id))
+      fits : (k id : ℕ) → list_any (eq_by_cmp nat_cmp id) (ids_in all) ≡ true → keep (root_of all id) ≡ true → Ends id → is_some (parent_of all (climb (up (parent_of all)) k id)) ≡ true
+          → k + 1 ≤ length kept
+      fits k id there passes ends some =
+          let le = length-le_from_is_member (eq_by_cmp_equiv nat_cmp_total) (run k id) (ids_in kept) (distinct k id some ends)
+          (λ q h. among (λ (y : ℕ). list_any (eq_by_cmp nat_cmp y) (ids_in kept) ≡ true) q (run k id) (members k id there passes ends) h) in
+          omega (arith, le, run_size k id, length-map kept (λ (p : Provider). p.id))
 
-      ends_left : (id : ℕ) → list_any (eq_by_cmp nat_cmp id) (ids_in all) ≡ true → (root_of all id == r) ≡ false → Ends id
-          → parent_of all (climb (up (parent_of all)) (length (without_tree all r)) id) ≡ None
-      ends_left id there other ends = elim (cases_Bool (is_some (parent_of all (climb (up (parent_of all)) (length (without_tree all r)) id)))) [
-        | inl some ↦ absurd (too_many (length (without_tree all r)) (fits (length (without_tree all r)) id there other ends some))
-        | inr none ↦ none_is (parent_of all (climb (up (parent_of all)) (length (without_tree all r)) id)) none
+      ends_left : (id : ℕ) → list_any (eq_by_cmp nat_cmp id) (ids_in all) ≡ true → keep (root_of all id) ≡ true → Ends id
+          → parent_of all (climb (up (parent_of all)) (length kept) id) ≡ None
+      ends_left id there passes ends = elim (cases_Bool (is_some (parent_of all (climb (up (parent_of all)) (length kept) id)))) [
+        | inl some ↦ absurd (too_many (length kept) (fits (length kept) id there passes ends some))
+        | inr none ↦ none_is (parent_of all (climb (up (parent_of all)) (length kept) id)) none
       ]
         where
           too_many : (n : ℕ) → n + 1 ≤ n → ⊥
           too_many n h = omega arith
 
-      root_left : (id : ℕ) → list_any (eq_by_cmp nat_cmp id) (ids_in all) ≡ true → (root_of all id == r) ≡ false → Ends id → root_of (without_tree all r) id ≡ root_of all id
-      root_left id there other ends =
-          let m = length (without_tree all r) in
-          let fewer = length_kept (λ p. not (root_of all p.id == r)) all in
+      root_left : (id : ℕ) → list_any (eq_by_cmp nat_cmp id) (ids_in all) ≡ true → keep (root_of all id) ≡ true → Ends id → root_of kept id ≡ root_of all id
+      root_left id there passes ends =
+          let m = length kept in
+          let fewer = length_kept (λ p. keep (root_of all p.id)) all in
           let split : length all ≡ m + (length all - m) = omega (arith, fewer) in
-          climb_left m id other ends
+          climb_left m id passes ends
           ∙ sym (ap (λ (n : ℕ). climb (up (parent_of all)) n id) split ∙ sym (climb_more (up (parent_of all)) (length all - m) m id)
-          ∙ stays (parent_of all) (length all - m) (climb (up (parent_of all)) m id) (ends_left id there other ends))
+          ∙ stays (parent_of all) (length all - m) (climb (up (parent_of all)) m id) (ends_left id there passes ends))
 
       -- what holds of each provider
       abbrev Fine : Provider → Type 0
@@ -264,48 +263,49 @@ module _ (all : List Provider) where
         trees.known ix h,
       ))
 
-      fine_left : (ix : ℕ) → ix < length (without_tree all r) → Fine (provider_at (without_tree all r) ix) × (not (root_of all (provider_at (without_tree all r) ix).id == r) ≡ true)
+      fine_left : (ix : ℕ) → ix < length kept → Fine (provider_at kept ix) × (keep (root_of all (provider_at kept ix).id) ≡ true)
       fine_left ix h =
-          All-from_recursion (λ p. Fine p × (not (root_of all p.id == r) ≡ true)) (without_tree all r) (all_kept Fine (λ p. not (root_of all p.id == r)) all all_fine) ix no_provider h
+          All-from_recursion (λ p. Fine p × (keep (root_of all p.id) ≡ true)) kept (all_kept Fine (λ p. keep (root_of all p.id)) all all_fine) ix no_provider h
 
-      known_left : (id : ℕ) (o : Option ℕ) → parent_of all id ≡ o → (root_of all id == r) ≡ false → Ends id → IfSome o (λ q. is_some (place_of all q) ≡ true) → IfSome o (λ q. is_some (place_of (without_tree all r) q) ≡ true)
-      known_left id None e other ends known = tt
-      known_left id (Some q) e other ends known =
+      pub passes_here : (ix : ℕ) → ix < length kept → keep (root_of all (id_at kept ix)) ≡ true
+      passes_here ix h = (fine_left ix h).1
+
+      known_left : (id : ℕ) (o : Option ℕ) → parent_of all id ≡ o → keep (root_of all id) ≡ true → Ends id → IfSome o (λ q. is_some (place_of all q) ≡ true) → IfSome o (λ q. is_some (place_of kept q) ≡ true)
+      known_left id None e passes ends known = tt
+      known_left id (Some q) e passes ends known =
           let goes : up (parent_of all) id ≡ q = ap (λ (o : Option ℕ). unwrap_or o id) e in
-          listed (without_tree all r) q 0
-          ∙ here_left q (sym (listed all q 0) ∙ known) (ap (λ (x : ℕ). root_of all x == r) (sym goes) ∙ other_up id other ends)
+          listed kept q 0
+          ∙ here_left q (sym (listed all q 0) ∙ known) (ap (λ (x : ℕ). keep (root_of all x)) (sym goes) ∙ passes_up id passes ends)
 
-      ids_left : ids_in (without_tree all r) ≡ filter (λ (x : ℕ). not (root_of all x == r)) (ids_in all)
-      ids_left = ids_kept (λ p. not (root_of all p.id == r)) (λ (x : ℕ). not (root_of all x == r)) all (λ p. refl)
+      ids_left : ids_in kept ≡ filter (λ (x : ℕ). keep (root_of all x)) (ids_in all)
+      ids_left = ids_kept (λ p. keep (root_of all p.id)) (λ (x : ℕ). keep (root_of all x)) all (λ p. refl)
 
-      trees_left : AreTrees (without_tree all r)
+      pub trees_left : AreTrees kept
       trees_left = record {
-        rising = rising_from_sorted (ids_in (without_tree all r))
-            (subst (IsStrictlySortedBy nat_cmp) (sym ids_left) (IsStrictlySortedBy-filter nat_cmp (λ (x : ℕ). not (root_of all x == r)) (ids_in all) (increasing (ids_in all) trees.rising)));
+        rising = rising_from_sorted (ids_in kept)
+            (subst (IsStrictlySortedBy nat_cmp) (sym ids_left) (IsStrictlySortedBy-filter nat_cmp (λ (x : ℕ). keep (root_of all x)) (ids_in all) (increasing (ids_in all) trees.rising)));
         fit = subst (All (λ (id : ℕ). id < 2 ^ 128)) (sym ids_left)
-            (All-from_recursion (λ (id : ℕ). id < 2 ^ 128) (filter (λ (x : ℕ). not (root_of all x == r)) (ids_in all))
-            (firsts (λ (id : ℕ). id < 2 ^ 128) (λ (x : ℕ). not (root_of all x == r) ≡ true) (filter (λ (x : ℕ). not (root_of all x == r)) (ids_in all))
-            (all_kept (λ (id : ℕ). id < 2 ^ 128) (λ (x : ℕ). not (root_of all x == r)) (ids_in all) (recursion_from_All (λ (id : ℕ). id < 2 ^ 128) (ids_in all) trees.fit))));
-        few = let fewer = length_kept (λ p. not (root_of all p.id == r)) all in omega (arith, fewer, trees.few);
+            (All-from_recursion (λ (id : ℕ). id < 2 ^ 128) (filter (λ (x : ℕ). keep (root_of all x)) (ids_in all))
+            (firsts (λ (id : ℕ). id < 2 ^ 128) (λ (x : ℕ). keep (root_of all x) ≡ true) (filter (λ (x : ℕ). keep (root_of all x)) (ids_in all))
+            (all_kept (λ (id : ℕ). id < 2 ^ 128) (λ (x : ℕ). keep (root_of all x)) (ids_in all) (recursion_from_All (λ (id : ℕ). id < 2 ^ 128) (ids_in all) trees.fit))));
+        few = let fewer = length_kept (λ p. keep (root_of all p.id)) all in omega (arith, fewer, trees.few);
         known = λ ix h.
             let fine = fine_left ix h in
-            known_left (id_at (without_tree all r) ix) (provider_at (without_tree all r) ix).parent fine.0.2 (not_so (root_of all (id_at (without_tree all r) ix) == r) fine.1) fine.0.1 fine.0.3;
+            known_left (id_at kept ix) (provider_at kept ix).parent fine.0.2 fine.1 fine.0.1 fine.0.3;
         ends = λ ix h.
             let fine = fine_left ix h in
-            let id = id_at (without_tree all r) ix in
-            let other = not_so (root_of all id == r) fine.1 in
-            ap (parent_of (without_tree all r)) (root_left id fine.0.0 other fine.0.1)
-            ∙ parent_left (root_of all id) (other_climb (length all) id other fine.0.1) ∙ fine.0.1;
+            let id = id_at kept ix in
+            ap (parent_of kept) (root_left id fine.0.0 fine.1 fine.0.1)
+            ∙ parent_left (root_of all id) (passes_climb (length all) id fine.1 fine.0.1) ∙ fine.0.1;
       }
 
-      same_left : (ix : ℕ) → ix < length (without_tree all r)
-          → (parent_of (without_tree all r) (id_at (without_tree all r) ix) ≡ parent_of all (id_at (without_tree all r) ix))
-          × (root_of (without_tree all r) (id_at (without_tree all r) ix) ≡ root_of all (id_at (without_tree all r) ix))
+      pub same_left : (ix : ℕ) → ix < length kept
+          → (parent_of kept (id_at kept ix) ≡ parent_of all (id_at kept ix))
+          × (root_of kept (id_at kept ix) ≡ root_of all (id_at kept ix))
       same_left ix h =
           let fine = fine_left ix h in
-          let id = id_at (without_tree all r) ix in
-          let other = not_so (root_of all id == r) fine.1 in
-          (parent_left id other, root_left id fine.0.0 other fine.0.1)
+          let id = id_at kept ix in
+          (parent_left id fine.1, root_left id fine.0.0 fine.1 fine.0.1)
 
 pub other_trees_stay : OtherTreesStay
-other_trees_stay all r trees = (trees_left all r trees, same_left all r trees)
+other_trees_stay all r trees = (trees_left all (λ x. not (x == r)) trees, same_left all (λ x. not (x == r)) trees)

@@ -47,7 +47,7 @@ module _ (all : List Provider) (trees : AreTrees all) where
   pub places_sized : length (places_in all) ≡ length (ids_in all)
   places_sized = length-map all (λ (p : Provider). option_and_then (rank (ids_in all)) p.parent) ∙ sym many
 
-  at_place : (i : ℕ) → parent_in (places_in all) i ≡ option_and_then (rank (ids_in all)) (provider_at all i).parent
+  pub at_place : (i : ℕ) → parent_in (places_in all) i ≡ option_and_then (rank (ids_in all)) (provider_at all i).parent
   at_place i = get_or-map (λ (p : Provider). option_and_then (rank (ids_in all)) p.parent) all i no_provider
 
   placed : (o : Option ℕ) (j : ℕ) → option_and_then (rank (ids_in all)) o ≡ Some j → j < length (ids_in all)
@@ -78,10 +78,10 @@ module _ (all : List Provider) (trees : AreTrees all) where
   own_parent i h =
       ap (option_and_then (λ (ix : ℕ). (provider_at all ix).parent)) (place_ids all (name i) ∙ rank_at (ids_in all) (name i) i trees.rising h refl)
 
-  agree : (i : ℕ) → i < length (ids_in all) → parent_of all (name i) ≡ option_map name (parent_in (places_in all) i)
+  pub agree : (i : ℕ) → i < length (ids_in all) → parent_of all (name i) ≡ option_map name (parent_in (places_in all) i)
   agree i h = own_parent i h ∙ sym (parent_again i (omega (arith, h, many)))
 
-  chains_end : (i : ℕ) → i < length (ids_in all) → parent_in (places_in all) (top (parent_in (places_in all)) (length (ids_in all)) i) ≡ None
+  pub chains_end : (i : ℕ) → i < length (ids_in all) → parent_in (places_in all) (top (parent_in (places_in all)) (length (ids_in all)) i) ≡ None
   chains_end i h =
       let s = steps (parent_of all) name (length (ids_in all)) parents places_within agree (length (ids_in all)) i h in
       nothing name (parent_in (places_in all) (top (parent_in (places_in all)) (length (ids_in all)) i))

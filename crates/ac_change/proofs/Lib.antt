@@ -1,7 +1,12 @@
 pub mod AfterEdit
+pub mod Again
 pub mod Built
+pub mod Chains
 pub mod Clouds
 pub mod Common
+pub mod Copied
+pub mod Copies
+pub mod EditedAt
 pub mod Fewer
 pub mod Followed
 pub mod Forests

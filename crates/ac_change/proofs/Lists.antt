@@ -1,8 +1,9 @@
 -- Lists whose items are tested, one by one and all.
-use Rattle.ac_change.proofs.Common.{◌≡◌, ◌<◌, ◌∙◌, ◌++◌, ◌∷◌, ℕ, Bool, true, false, List, [], map, filter, length, get_or, get_or-map, length-map, sym, ap, inl, inr, arith, list_any, cases_Bool, is_lt, IsTotalOrder}
+use Rattle.ac_change.proofs.Common.{◌≡◌, ◌<◌, ◌+◌, ◌∙◌, ◌++◌, ◌∷◌, ℕ, Bool, true, false, List, [], map, filter, length, get_or, take, get_or-map, length-map, sym, ap, ap₂, inl, inr, arith, list_any, cases_Bool, is_lt, IsTotalOrder}
 use Rattle.std.proofs.Common.{Less}
 use Rattle.std.specs.List.{AllByRecursion}
 use Rattle.std.specs.List.Sorted.{IsStrictlySortedBy}
+use Rattle.std.proofs.lemmas.List.{map-append, take_more}
 use Rattle.std.proofs.lemmas.List.Folds.{list_any_at}
 use Rattle.std.proofs.lemmas.List.Kept.{IsStrictlySortedBy-filter}
 use Rattle.std.proofs.lemmas.Grind.{common_steps}
@@ -17,6 +18,13 @@ none_here f test xs i x none inside here = elim (cases_Bool (test (f x))) [
       (list_any_at test (map f xs) i (f x) (omega (arith, inside, length-map xs f)) (ap test (get_or-map f xs i x (f x) inside ∙ ap f (sym here)) ∙ passes)))
   | inr fails ↦ fails
 ]
+
+-- one more of what is made of a list
+pub made_more : {A X Y : Type 0} (shown : A → Y) (f : X → Y) (new more : List A) (a : A) (xs : List X) (i : ℕ) (x : X) → i < length xs → x ≡ get_or xs i x
+    → more ≡ new ++ a ∷ [] → map shown new ≡ map f (take i xs) → shown a ≡ f x → map shown more ≡ map f (take (i + 1) xs)
+made_more shown f new more a xs i x inside here is was one =
+    ap (map shown) is ∙ map-append shown new (a ∷ []) ∙ ap₂ (λ ys y. ys ++ y ∷ []) was (one ∙ ap f here)
+    ∙ sym (ap (map f) (take_more xs i x inside) ∙ map-append f (take i xs) (get_or xs i x ∷ []))
 
 is_less : (o : Ordering) → is_lt o ≡ true → o ≡ Less
 is_less o h = grind (arith, common_steps)

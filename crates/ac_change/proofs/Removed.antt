@@ -13,7 +13,7 @@ use Rattle.ac_change.proofs.Fewer.{all_kept, at_all, firsts, other_trees_stay}
 use Rattle.ac_change.proofs.Touching.{rooted_here, same_kept}
 
 -- what is kept of providers that are held
-shown_kept : (test : Provider → Bool) (list : List Held) → map provider_held (filter (λ h. test (provider_held h)) list) ≡ filter test (map provider_held list)
+pub shown_kept : (test : Provider → Bool) (list : List Held) → map provider_held (filter (λ h. test (provider_held h)) list) ≡ filter test (map provider_held list)
 shown_kept test [] = refl
 shown_kept test (h ∷ list) = elim (cases_Bool (test (provider_held h))) [
   | inl e ↦ rw e (ap (λ (l : List Provider). provider_held h ∷ l) (shown_kept test list))

@@ -1,6 +1,7 @@
 -- Changes of a cloud: the providers that they leave, or why one of them can't be made.
-use Rattle.std.specs.Prelude.{ℕ, Bool, true, false, ◌&&◌, ◌==◌, not, nat_lt, List, [], ◌∷◌, ◌++◌, map, length, Option, Some, None, Result, Ok, Err, if◌then◌else◌}
-use Rattle.std.specs.Option.{option_or}
+use Rattle.std.specs.Prelude.{ℕ, zero, suc, ◌+◌, ◌-◌, ◌*◌, ◌^◌, Bool, true, false, ◌&&◌, ◌||◌, ◌==◌, not, nat_le, nat_lt, List, [], ◌∷◌, ◌++◌, codes, map, length, Option, Some, None, Result, Ok, Err, if◌then◌else◌}
+use Rattle.std.specs.Fmt.{decimal}
+use Rattle.std.specs.Option.{option_map, option_or, unwrap_or}
 use Rattle.std.specs.Result.{result_err}
 use Rattle.std.specs.List.{filter, list_any, sum_by}
 use Rattle.std.specs.Ordering.{is_eq, is_lt, nat_cmp}
@@ -9,9 +10,11 @@ use Rattle.std.specs.declared.cmp.Ordering.{Ordering}
 use Rattle.ac_base.specs.Quantities.{InventoryNumbers, is_inventory}
 use Rattle.ac_base.specs.Texts.{text_cmp}
 use Rattle.ac_cloud.specs.Cloud.Hosts.{host_of}
+use Rattle.ac_cloud.specs.Cloud.Places.{rank}
 use Rattle.ac_cloud.specs.World.{Provider, Sizes, UsedInventory, World, id_at, is_member, root_of}
 use Rattle.ac_cloud.specs.declared.cloud.provider_name.HostFault.{HostFault}
 use Rattle.ac_cloud.specs.declared.cloud.provider_name.HostFault.TheVariants as host_fault
+use Rattle.ac_change.specs.Trees.{ids_in}
 use Rattle.ac_change.specs.declared.fault.ChangeKind.{ChangeKind}
 use Rattle.ac_change.specs.declared.fault.ChangeKind.TheVariants as kind
 
@@ -41,10 +44,11 @@ pub data Edit : Type 0 where
   leaves : ℕ → Edit
   sets : List ℕ → Setting → Edit
 
--- an edit of those whom it touches, or the tree of a provider is gone
+-- an edit of those whom it touches; or the tree of a provider is gone, or there are so many more like it
 pub data Change : Type 0 where
   edit : Scope → Edit → Change
   remove : List ℕ → Change
+  add : ℕ → List ℕ → Change
 
 -- ---- What an edit makes of a provider
 
@@ -150,6 +154,54 @@ edit_fault all scope e = option_or (scope_fault all scope) (if spoils_in all sco
 abbrev pub without_tree : List Provider → ℕ → List Provider
 without_tree all r = filter (λ p. not (root_of all p.id == r)) all
 
+-- the providers of one tree
+abbrev pub tree_of : List Provider → ℕ → List Provider
+tree_of all r = filter (λ p. root_of all p.id == r) all
+
+-- the UUID of the copy of one of these: copies stand one after another, in their order
+abbrev pub id_copied : List ℕ → ℕ → ℕ → ℕ
+id_copied ids first id = first + unwrap_or (rank ids id) 0
+
+-- the name of the copy of this number; who has no name gets none
+abbrev pub name_copied : ℕ → List ℕ → List ℕ
+name_copied turn name = if length name == 0 then [] else name ++ codes "+" ++ decimal turn
+
+-- what a provider has, with nothing used
+abbrev pub entry_unused : List ℕ × UsedInventory → List ℕ × UsedInventory
+entry_unused e = (e.0, record e.1 { used = 0 })
+
+-- the copy of one of the providers of these UUIDs
+abbrev pub copied : List ℕ → ℕ → ℕ → Provider → Provider
+copied ids first turn p = record p {
+  id = id_copied ids first p.id;
+  name = name_copied turn p.name;
+  parent = option_map (id_copied ids first) p.parent;
+  entries = map entry_unused p.entries;
+}
+
+-- a copy of a tree, of which the first UUID and the number are these
+abbrev pub tree_copied : List Provider → ℕ → ℕ → List Provider
+tree_copied tree first turn = map (copied (ids_in tree) first turn) tree
+
+-- so many copies of a tree behind all providers
+abbrev pub with_copies : List Provider → ℕ → ℕ → List Provider → List Provider
+with_copies tree first zero all = all
+with_copies tree first (suc n) all = with_copies tree first n all ++ tree_copied tree (first + n * length tree) (suc n)
+
+-- the UUID of the last provider, which is the greatest
+abbrev pub last_id : List Provider → ℕ
+last_id all = id_at all (length all - 1)
+
+-- so many more would be more than there may be, or for some there is no UUID left
+abbrev pub are_too_many : List Provider → ℕ → Bool
+are_too_many all more = nat_lt 65536 (length all + more) || nat_le (2 ^ 128 - 1) (last_id all + more)
+
+-- the providers with so many copies of a tree, with nothing used
+abbrev pub added : List Provider → ℕ → ℕ → Result (List Provider) ChangeKind
+added all n r =
+    if are_too_many all (n * length (tree_of all r)) then Err kind.TooManyProviders
+    else Ok (with_copies (tree_of all r) (last_id all + 1) n all)
+
 -- a value, unless something speaks against it
 abbrev pub unless : {X : Type 0} → Option ChangeKind → X → Result X ChangeKind
 unless None value = Ok value
@@ -159,6 +211,7 @@ unless (Some why) value = Err why
 unfoldable pub changed : List Provider → Change → Result (List Provider) ChangeKind
 changed all (edit scope e) = unless (edit_fault all scope e) (edited_in all scope e)
 changed all (remove text) = and_then (λ r. Ok (without_tree all r)) (host_root all text)
+changed all (add n text) = and_then (added all n) (host_root all text)
 
 -- a fault, told with its line
 abbrev pub told_at : {X : Type 0} → ℕ → Result X ChangeKind → Result X (ℕ × ChangeKind)

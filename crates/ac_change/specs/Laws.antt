@@ -3,8 +3,8 @@ use Rattle.std.specs.Prelude.{◌≡◌, ◌<◌, ℕ, true, false, List, length
 use Rattle.std.specs.List.{All}
 use Rattle.std.specs.List.Sorted.{IsStrictlySortedBy}
 use Rattle.ac_base.specs.Texts.{text_cmp}
-use Rattle.ac_cloud.specs.World.{Provider, has_trait, id_at, parent_of, provider_at, root_of}
-use Rattle.ac_change.specs.Changes.{Edit, Scope, changed, edit, edited_in, gains, is_touched, loses, root, without_tree}
+use Rattle.ac_cloud.specs.World.{Provider, has_trait, id_at, is_root, parent_of, provider_at, root_of}
+use Rattle.ac_change.specs.Changes.{Edit, Scope, added, changed, edit, edited_in, gains, is_touched, last_id, loses, root, without_tree}
 use Rattle.ac_change.specs.Trees.{AreTrees}
 
 -- The providers are the same, each in its tree.
@@ -47,3 +47,8 @@ abbrev pub LosesWhatItGained : Type 0
 LosesWhatItGained =
     (all left : List Provider) (text name : List ℕ) → AreNamedInOrder all → AreWithout all (root text) name
     → changed all (edit (root text) (gains name)) ≡ Ok left → changed left (edit (root text) (loses name)) ≡ Ok all
+
+-- Where there is one tree more like that of a root, and then the tree of the last provider is gone, all is as it was.
+abbrev pub AddedGoesAgain : Type 0
+AddedGoesAgain =
+    (all left : List Provider) (r : ℕ) → AreTrees all → is_root all r ≡ true → added all 1 r ≡ Ok left → without_tree left (root_of left (last_id left)) ≡ all

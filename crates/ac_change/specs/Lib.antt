@@ -1,5 +1,6 @@
 pub mod Changes
 pub mod Columns
+pub mod Copies
 pub mod Drafts
 pub mod Faults
 pub mod Held

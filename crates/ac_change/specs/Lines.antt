@@ -1,10 +1,10 @@
 -- Lines of changes, and what each says.
-use Rattle.std.specs.Prelude.{ℕ, Bool, true, false, ◌+◌, ◌==◌, ◌||◌, not, List, [], ◌∷◌, ◌++◌, codes, drop, length, take, Option, Some, None, if◌then◌else◌}
+use Rattle.std.specs.Prelude.{ℕ, Bool, true, false, ◌+◌, ◌==◌, ◌&&◌, ◌||◌, not, List, [], ◌∷◌, ◌++◌, codes, drop, length, take, Option, Some, None, if◌then◌else◌}
 use Rattle.std.specs.List.{filter, slice_split}
 use Rattle.std.specs.Option.{option_and_then, option_map, option_or}
 use Rattle.std.specs.Str.{bytes_eq}
 use Rattle.ac_base.specs.Texts.{count_value, id_value, name_value, ratio_value}
-use Rattle.ac_change.specs.Changes.{Change, Edit, Scope, Setting, edit, everyone, gains, host, joins, leaves, loses, max_unit, members, min_unit, ratio, remove, reserved, root, sets, step_size, total}
+use Rattle.ac_change.specs.Changes.{Change, Edit, Scope, Setting, add, edit, everyone, gains, host, joins, leaves, loses, max_unit, members, min_unit, ratio, remove, reserved, root, sets, step_size, total}
 use Rattle.ac_change.specs.declared.fault.ChangeKind.{ChangeKind}
 use Rattle.ac_change.specs.declared.fault.ChangeKind.TheVariants as kind
 
@@ -87,7 +87,7 @@ edit_of word what = option_and_then (λ of. option_map (λ e. edit of e) what) (
 abbrev pub disabled : Text
 disabled = codes "COMPUTE_STATUS_DISABLED"
 
--- what a command says of one word, of two, and of four
+-- what a command says of one word, of two, of three, and of four
 unfoldable pub one_said : Text → Text → Option Change
 one_said command word =
     if bytes_eq command (codes "disable") then Some (edit (root word) (gains disabled))
@@ -101,6 +101,11 @@ two_said command word mark =
     else if bytes_eq command (codes "aggregate") then edit_of word (option_and_then aggregate_edit (sign_value mark))
     else None
 
+unfoldable pub three_said : Text → Text → Text → Text → Option Change
+three_said command count word name =
+    if bytes_eq command (codes "add") && bytes_eq word (codes "like") then option_map (λ n. add n name) (count_value count)
+    else None
+
 unfoldable pub four_said : Text → Text → Text → Text → Text → Option Change
 four_said command word class field value =
     if bytes_eq command (codes "set") then edit_of word (set_edit class field value)
@@ -110,6 +115,7 @@ four_said command word class field value =
 abbrev pub change_value : List Text → Option Change
 change_value (command ∷ word ∷ []) = one_said command word
 change_value (command ∷ word ∷ mark ∷ []) = two_said command word mark
+change_value (command ∷ count ∷ word ∷ name ∷ []) = three_said command count word name
 change_value (command ∷ word ∷ class ∷ field ∷ value ∷ []) = four_said command word class field value
 change_value words = None
 

@@ -1,7 +1,7 @@
 -- What a change of the program says.
 use Rattle.std.specs.Prelude.{ℕ}
 use Rattle.ac_base.specs.Names.{class_bytes, trait_bytes}
-use Rattle.ac_change.specs.Changes.{Change, Edit, Scope, Setting, edit, everyone, gains, host, joins, leaves, loses, max_unit, members, min_unit, ratio, remove, reserved, root, sets, step_size, total}
+use Rattle.ac_change.specs.Changes.{Change, Edit, Scope, Setting, add, edit, everyone, gains, host, joins, leaves, loses, max_unit, members, min_unit, ratio, remove, reserved, root, sets, step_size, total}
 use Rattle.ac_change.specs.declared.changes.Change as rust_change
 use Rattle.ac_change.specs.declared.changes.Edit as rust_edit
 use Rattle.ac_change.specs.declared.changes.Line.{Line}
@@ -36,6 +36,7 @@ edit_shown (edits.Sets class to) = sets (class_bytes class) (setting_shown to)
 abbrev pub change_shown : rust_change.Change → Change
 change_shown (change.Edit of what) = edit (scope_shown of) (edit_shown what)
 change_shown (change.Remove text) = remove text.items
+change_shown (change.Add count text) = add count text.items
 
 -- a change with its line
 abbrev pub line_shown : Line → ℕ × Change

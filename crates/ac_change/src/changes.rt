@@ -53,6 +53,8 @@ pub enum Change {
     Edit(Scope, Edit),
     /// The tree of the provider that a text names is gone, by its UUID or by a name that no other has.
     Remove(Vec<u8>),
+    /// There are so many more trees like that of the provider that a text names, with nothing used.
+    Add(u32, Vec<u8>),
 }
 
 /// A change, and the number of its line.

@@ -1,5 +1,6 @@
 //! The providers of a cloud while it changes.
 mod building;
+mod copies;
 mod edits;
 mod following;
 mod held;

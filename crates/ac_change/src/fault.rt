@@ -20,6 +20,9 @@ pub enum ChangeKind {
     /// More would be reserved of an inventory than there is.
     #[error("ReservedOverTotal")]
     ReservedOverTotal,
+    /// There would be more providers than there may be, or no UUID is left for one of them.
+    #[error("TooManyProviders")]
+    TooManyProviders,
 }
 
 /// The first fault of some changes, or a refused growth.

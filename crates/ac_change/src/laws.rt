@@ -1,5 +1,5 @@
 //! Laws of changes. Each function does nothing: its contract is the law.
-ghost use Rattle.ac_change.specs.Laws.{EditsKeepTrees, LosesWhatItGained, OtherTreesStay, OthersStay};
+ghost use Rattle.ac_change.specs.Laws.{AddedGoesAgain, EditsKeepTrees, LosesWhatItGained, OtherTreesStay, OthersStay};
 
 /// An edit leaves all trees as they are.
 pub fn edits_keep_trees()
@@ -20,4 +20,9 @@ pub fn other_trees_stay()
 /// root that wasn't disabled.
 pub fn loses_what_it_gained()
     ensures { LosesWhatItGained }
+{}
+
+/// Where there is one tree more like that of a root, and then the tree of the last provider is gone, all is as it was.
+pub fn added_goes_again()
+    ensures { AddedGoesAgain }
 {}

@@ -6,7 +6,7 @@ ghost use Rattle.std.specs.Prelude.{◌≡◌, ◌==◌, map, IfOk, codes, if◌
 ghost use Rattle.std.specs.Option.{option_and_then, option_map};
 ghost use Rattle.ac_base.specs.Names.{trait_bytes};
 ghost use Rattle.ac_base.specs.Texts.{count_value};
-ghost use Rattle.ac_change.specs.Lines.{aggregate_edit, change_value, disabled, edit_of, four_said, one_said, positive, scope_value, set_edit, setting_value, sign_value, trait_edit, two_said};
+ghost use Rattle.ac_change.specs.Lines.{aggregate_edit, change_value, disabled, edit_of, four_said, one_said, positive, scope_value, set_edit, setting_value, sign_value, three_said, trait_edit, two_said};
 ghost use Rattle.ac_change.specs.Shown.{change_shown, edit_shown, scope_shown, setting_shown};
 
 use crate::changes::{Change, Edit, Scope, Setting};
@@ -191,6 +191,27 @@ fn read_two(
     Ok(None)
 }
 
+// What a command says of three words.
+#[tactic(auto, unfolding(crate::specs::Lines::three_said))]
+fn read_three(
+    alloc: Global,
+    command: &[u8],
+    count: &[u8],
+    word: &[u8],
+    name: &[u8],
+) -> Result<Option<Change>, NoMemory>
+    ensures { IfOk result (λ change. option_map change_shown change
+        ≡ three_said command.now count.now word.now name.now) }
+{
+    if command != b"add".as_slice() || word != b"like".as_slice() {
+        return Ok(None);
+    }
+    match read_count(count) {
+        Some(count) => Ok(Some(Change::Add(count, name.to_vec(alloc)?))),
+        None => Ok(None),
+    }
+}
+
 // What a command says of four words.
 #[tactic(auto, unfolding(crate::specs::Lines::four_said))]
 fn read_four(
@@ -219,6 +240,7 @@ pub(crate) fn read_change(alloc: Global, words: &[&[u8]]) -> Result<Option<Chang
     match words {
         [command, word] => read_one(alloc, command, word),
         [command, word, mark] => read_two(alloc, command, word, mark),
+        [command, count, word, name] => read_three(alloc, command, count, word, name),
         [command, word, class, field, value] => {
             read_four(alloc, command, word, class, field, value)
         }

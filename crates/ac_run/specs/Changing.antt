@@ -39,6 +39,7 @@ change_name kind.BadLine = codes "BadLine"
 change_name kind.UnknownHost = codes "UnknownHost"
 change_name kind.AmbiguousHost = codes "AmbiguousHost"
 change_name kind.ReservedOverTotal = codes "ReservedOverTotal"
+change_name kind.TooManyProviders = codes "TooManyProviders"
 
 -- the lines of changes that can't be read, and of too many bytes
 unfoldable pub changes_unread_line : List ℕ
@@ -54,7 +55,8 @@ change_line line why = said (codes "change: line " ∷ decimal line ∷ codes ":
 -- what is to be done
 unfoldable pub change_remedy : ChangeKind → List ℕ
 change_remedy kind.BadLine =
-    codes "  A line is disable HOST, enable HOST, remove HOST, set WHERE CLASS FIELD VALUE, trait WHERE +NAME or aggregate WHERE +UUID, with - where it is to go; WHERE is a provider, * or in:AGGREGATE.\n"
+    codes "  A line is disable HOST, enable HOST, remove HOST, add N like HOST, set WHERE CLASS FIELD VALUE, trait WHERE +NAME or aggregate WHERE +UUID, with - where it is to go; WHERE is a provider, * or in:AGGREGATE.\n"
 change_remedy kind.UnknownHost = codes "  No provider has this UUID or name.\n"
 change_remedy kind.AmbiguousHost = codes "  Several providers have this name; write the UUID of one.\n"
 change_remedy kind.ReservedOverTotal = codes "  More would be reserved than there is.\n"
+change_remedy kind.TooManyProviders = codes "  There would be more than 65536 providers, or no UUID is left behind the greatest.\n"

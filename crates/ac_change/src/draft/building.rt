@@ -7,7 +7,8 @@ ghost use Rattle.ac_cloud.specs.Cloud.Places.{rank};
 ghost use Rattle.ac_cloud.specs.ListsOf.{lists_of};
 ghost use Rattle.ac_change.specs.Changes.{counted, sizes_told, world_told};
 ghost use Rattle.ac_change.specs.Columns.{AreColumns};
-ghost use Rattle.ac_change.specs.Drafts.{all_held};
+ghost use Rattle.ac_change.specs.Copies.{AreListed};
+ghost use Rattle.ac_change.specs.Drafts.{AreWhole, all_held};
 ghost use Rattle.ac_change.specs.declared.draft.held.Held.{Held as HeldShown};
 
 use crate::draft::Draft;
@@ -60,6 +61,7 @@ fn find_ids(alloc: Global, list: &[Held]) -> Result<Vec<Id>, AllocError>
     Ok(ids)
 }
 
+// The places of so many providers, each of them its turn.
 fn places(alloc: Global, count: usize) -> Result<Vec<u32>, AllocError>
     requires { count ≤ 65536 }
     ensures { IfOk result (λ turns. length turns.items ≡ count) }
@@ -69,6 +71,17 @@ fn places(alloc: Global, count: usize) -> Result<Vec<u32>, AllocError>
         turns.push(place as u32)?;
     }
     Ok(turns)
+}
+
+// The ids of providers, by their places.
+pub(super) fn ids_of(alloc: Global, list: &[Held]) -> Result<Ids, AllocError>
+    requires { AreWhole list.now }
+    ensures { IfOk result (λ ids. AreListed list.now ids.ids.items) }
+{
+    let ids = find_ids(alloc, list)?;
+    let turns = places(alloc, ids.len())?;
+    let ids = Ids::new(alloc, ids, turns)?;
+    Ok(ids)
 }
 
 impl Columns {
@@ -132,9 +145,7 @@ impl Draft {
         ensures { IfOk result (λ cloud. world_of cloud ≡ world_told (all_held self.list.items)) }
     {
         let Draft { list } = self;
-        let ids = find_ids(alloc, &list)?;
-        let turns = places(alloc, ids.len())?;
-        let ids = Ids::new(alloc, ids, turns)?;
+        let ids = ids_of(alloc, &list)?;
         let parents = find_parents(alloc, &ids, &list)?;
         let roots = find_tops(alloc, &parents)?;
         let Columns {

@@ -1,5 +1,5 @@
 //! What an edit makes of the providers that it touches.
-ghost use Rattle.std.specs.Prelude.{◌≡◌, ◌&&◌, false, map, IfOk};
+ghost use Rattle.std.specs.Prelude.{◌≡◌, ◌<◌, ◌&&◌, false, length, map, set, IfOk};
 ghost use Rattle.std.specs.List.{list_any};
 ghost use Rattle.std.specs.List.Sorted.{IsStrictlySortedBy};
 ghost use Rattle.std.specs.Map.{keys_of};
@@ -8,13 +8,16 @@ ghost use Rattle.ac_base.specs.Names.{trait_bytes};
 ghost use Rattle.ac_base.specs.Texts.{text_cmp};
 ghost use Rattle.ac_cloud.specs.Cloud.Entries.{entry_pair};
 ghost use Rattle.ac_change.specs.Changes.{edited, spoils};
-ghost use Rattle.ac_change.specs.Drafts.{all_held, edited_held, roots_held};
+ghost use Rattle.ac_cloud.specs.World.{provider_at};
+ghost use Rattle.ac_change.specs.Drafts.{AreWhole, all_held, edited_held, roots_held};
 ghost use Rattle.ac_change.specs.Held.{provider_held};
 ghost use Rattle.ac_change.specs.Marked.{is_marked};
 ghost use Rattle.ac_change.specs.Shown.{edit_shown};
 
 use crate::changes::Edit;
+use crate::draft::copies::copy;
 use crate::draft::held::Held;
+use crate::draft::hosts::find_id;
 use crate::draft::inventories::{entries_set, spoils};
 use crate::draft::members::{with_id, with_name, without_id, without_name};
 use crate::draft::touched::Touched;
@@ -127,9 +130,24 @@ pub(crate) fn spoils_one(list: &[Held], touched: &Touched, edit: &Edit) -> bool
     list.iter().any(|held| is_spoilt(held, touched, edit))
 }
 
-// All providers after an edit of those whom it touches.
+// All providers after an edit of the one at a place.
 #[tactic(auto, unfolding(crate::specs::Drafts::all_held))]
-pub(crate) fn edit_all(
+fn edit_at(alloc: Global, list: Vec<Held>, ix: usize, edit: &Edit) -> Result<Vec<Held>, NoMemory>
+    requires inside { ix < length list.items }
+    requires fine { spoils (edit_shown edit.now) (provider_at (all_held list.items) ix) ≡ false }
+    ensures providers { IfOk result (λ new. all_held new.items ≡ set (all_held list.items) ix
+        (edited (edit_shown edit.now) (provider_at (all_held list.items) ix))) }
+    ensures roots { IfOk result (λ new. roots_held new.items ≡ roots_held list.items) }
+{
+    let mut list = list;
+    let held = copy(alloc, &list[ix])?;
+    list[ix] = edited(alloc, held, edit)?;
+    Ok(list)
+}
+
+// All providers after an edit of those whom it touches, looked for one by one.
+#[tactic(auto, unfolding(crate::specs::Drafts::all_held))]
+fn edit_each(
     alloc: Global,
     list: Vec<Held>,
     touched: &Touched,
@@ -146,4 +164,26 @@ pub(crate) fn edit_all(
         new.push(edited_one(alloc, held, touched, edit)?)?;
     }
     Ok(new)
+}
+
+// All providers after an edit of those whom it touches.
+pub(crate) fn edit_all(
+    alloc: Global,
+    list: Vec<Held>,
+    touched: &Touched,
+    edit: &Edit,
+) -> Result<Vec<Held>, NoMemory>
+    requires whole { AreWhole list.items }
+    requires fine { list_any (λ h. is_marked touched.now h
+        && spoils (edit_shown edit.now) (provider_held h)) list.items ≡ false }
+    ensures providers { IfOk result (λ new. all_held new.items
+        ≡ map (edited_held touched.now (edit_shown edit.now)) list.items) }
+    ensures roots { IfOk result (λ new. roots_held new.items ≡ roots_held list.items) }
+{
+    if let Touched::One(id) = touched
+        && let Some(ix) = find_id(&list, *id)
+    {
+        return edit_at(alloc, list, ix, edit);
+    }
+    edit_each(alloc, list, touched, edit)
 }

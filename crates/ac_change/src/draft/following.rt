@@ -143,6 +143,7 @@ impl Draft {
         match change {
             Change::Edit(scope, edit) => self.edited(alloc, scope, edit),
             Change::Remove(text) => self.without(alloc, text),
+            Change::Add(count, text) => self.added(alloc, *count, text),
         }
     }
 }

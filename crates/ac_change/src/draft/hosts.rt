@@ -25,7 +25,7 @@ use std::collections::BTreeSet;
 
 // The provider of an id.
 #[tactic(auto, unfolding(crate::specs::Drafts::all_held))]
-fn find_id(list: &[Held], id: Id) -> Option<usize>
+pub(super) fn find_id(list: &[Held], id: Id) -> Option<usize>
     ensures place { result ≡ place_of (all_held list.now) id }
     ensures inside { IfSome result (λ ix. ix < length list.now) }
 {

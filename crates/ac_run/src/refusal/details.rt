@@ -85,13 +85,16 @@ fn change_remedy(kind: ChangeKind) -> &'static [u8]
 {
     match kind {
         ChangeKind::BadLine => {
-            b"  A line is disable HOST, enable HOST, remove HOST, set WHERE CLASS FIELD VALUE, trait WHERE +NAME or aggregate WHERE +UUID, with - where it is to go; WHERE is a provider, * or in:AGGREGATE.\n"
+            b"  A line is disable HOST, enable HOST, remove HOST, add N like HOST, set WHERE CLASS FIELD VALUE, trait WHERE +NAME or aggregate WHERE +UUID, with - where it is to go; WHERE is a provider, * or in:AGGREGATE.\n"
         }
         ChangeKind::UnknownHost => b"  No provider has this UUID or name.\n",
         ChangeKind::AmbiguousHost => {
             b"  Several providers have this name; write the UUID of one.\n"
         }
         ChangeKind::ReservedOverTotal => b"  More would be reserved than there is.\n",
+        ChangeKind::TooManyProviders => {
+            b"  There would be more than 65536 providers, or no UUID is left behind the greatest.\n"
+        }
     }
 }
 

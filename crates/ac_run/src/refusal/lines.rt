@@ -124,6 +124,7 @@ fn change_name(kind: ChangeKind) -> &'static [u8]
         ChangeKind::UnknownHost => b"UnknownHost",
         ChangeKind::AmbiguousHost => b"AmbiguousHost",
         ChangeKind::ReservedOverTotal => b"ReservedOverTotal",
+        ChangeKind::TooManyProviders => b"TooManyProviders",
     }
 }
 

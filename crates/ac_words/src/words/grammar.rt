@@ -124,7 +124,7 @@ fn add_change<'a>(alloc: Global, command: Command<'a>) -> Result<Command<'a>, Al
         alloc,
         "change",
         "FILE",
-        "What if: a change a line, made before the question: `disable HOST`, `enable HOST`, `remove HOST`, \
+        "What if: a change a line, made before the question: `disable HOST`, `enable HOST`, `remove HOST`, `add N like HOST`, \
          `set WHERE CLASS FIELD VALUE`, `trait WHERE +NAME`, `aggregate WHERE +UUID`",
     ))
 }

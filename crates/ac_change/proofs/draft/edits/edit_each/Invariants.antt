@@ -6,7 +6,7 @@ use Rattle.ac_change.specs.Drafts.{edited_held}
 use Rattle.ac_change.specs.Held.{provider_held}
 use Rattle.ac_change.specs.Marked.{is_marked}
 use Rattle.ac_change.specs.Shown.{edit_shown}
-use Rattle.ac_change.proofs.draft.edits.edit_all.Given as goal
+use Rattle.ac_change.proofs.draft.edits.edit_each.Given as goal
 
 abbrev pub invariant-loop-held : goal.invariant-loop-held
 invariant-loop-held l =
