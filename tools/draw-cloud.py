@@ -1,6 +1,6 @@
 #!/usr/bin/env python3
 """tools/draw-cloud.py --tables DIR [--token TOKEN] [--tree NAME].. [--query QUERY]
-tools/draw-cloud.py --hosts HOSTS.csv --tables DIR [--query QUERY]
+tools/draw-cloud.py --hosts HOSTS.csv --tables DIR [--by UUID[=NAME],..].. [--query QUERY]
 
 Draws a cloud from its tables, as SVG on standard output. In the first form, each frame is a tree. An arrow leads from a parent to its child, and a
 dashed arrow from a sharing provider to the root of each other tree that may use it. A box says how much is left of each class. With a token, as
@@ -9,7 +9,11 @@ these providers are drawn. Without either, there may be at most 30 trees. Traits
 that the query names are always shown.
 
 With --hosts, the picture has a square for each row of `ac_cli hosts`, in rows by aggregate. Its colour says whether the query fits there, and else what
-is lacking. Names are shown where the pointer is. The query is written above."""
+is lacking. Names are shown where the pointer is. The query is written above. The squares of a row stand in the order of names, and those without a name
+behind. A host is in the aggregates of its root provider. If there are several, it stands in the first by UUID, so the rows of others are less than whole.
+
+With --by, the rows are these aggregates, such as zones, in this order, and each is whole: a host stands in every one that it is in. NAME is the title of
+a row, and has no comma. How many hosts are in none of them is told below. The numbers beside the colours are of the others, each counted once."""
 from __future__ import annotations
 
 import argparse
@@ -21,7 +25,7 @@ from urllib.parse import parse_qsl
 sys.dont_write_bytecode = True
 
 from pictures import hosts, trees
-from pictures.cloud import TABLES, UNREADABLE, NotDrawn, cloud_of, fill, identity, named
+from pictures.cloud import LONGEST, TABLES, UNREADABLE, NotDrawn, cloud_of, fill, identity, named
 
 MOST_TREES = 30
 
@@ -37,14 +41,19 @@ def words():
     parser.add_argument('--tree', action='append', default=[], metavar='NAME', help='a provider whose tree is drawn: its UUID, or its name')
     parser.add_argument('--query', default='', help='the query, of which traits are always shown')
     parser.add_argument('--hosts', metavar='FILE', help='what `ac_cli hosts` wrote, or - for standard input: draws squares and no trees')
+    parser.add_argument('--by', action='append', default=[], metavar='UUID[=NAME],..', help='with --hosts: the aggregates that are rows, and their titles')
     asked = parser.parse_args()
     paths = {name: vars(asked)[name] for name in TABLES}
     if asked.tables and any(paths.values()):
         parser.error('--tables names all tables')
     if asked.hosts and (asked.token or asked.tree):
         parser.error('--hosts draws no trees')
+    if asked.by and not asked.hosts:
+        parser.error('--by needs --hosts')
     if asked.tables:
         paths = {name: os.path.join(asked.tables, name + '.csv') for name in TABLES}
+    if asked.by and not paths['aggregates']:
+        parser.error('the aggregates are missing: --tables, or --aggregates')
     if not asked.hosts and not (paths['providers'] and paths['inventories']):
         parser.error('the tables are missing: --tables, or at least --providers and --inventories')
     return asked, paths
@@ -56,9 +65,25 @@ def traits_of(query):
     return frozenset(trait for name, value in pairs if re.match('(root_)?required', name) for trait in re.findall('[A-Z0-9_]+', value))
 
 
+def named_by(option, text, what):
+    """The UUID that stands in a word of the command line."""
+    try:
+        return identity(text)
+    except ValueError as fault:
+        raise NotDrawn(f"--{option}: {text[:LONGEST]!r} isn't a UUID; {what}", 2) from fault
+
+
+def rows_asked(words):
+    """The aggregates that are to be rows, and their titles."""
+    for one in ','.join(words).split(','):
+        aggregate, _, title = one.partition('=')
+        aggregate = named_by('by', aggregate, 'give the UUIDs of aggregates between commas, each alone or as UUID=NAME')
+        yield aggregate, title or aggregate
+
+
 def trees_asked(asked, paths):
+    token = [named_by('token', one, 'a token is a line of `ac_cli tokens`') for one in asked.token.split(',')] if asked.token else []
     cloud = cloud_of(paths['providers'])
-    token = [identity(one) for one in asked.token.split(',')] if asked.token else []
     for one in token:
         if one not in cloud:
             raise NotDrawn(f'there is no provider {one}')
@@ -74,8 +99,10 @@ def trees_asked(asked, paths):
 
 
 def hosts_asked(asked, paths):
+    by = list(rows_asked(asked.by)) if asked.by else []
     found = hosts.hosts_of(asked.hosts)
-    return hosts.picture(found, hosts.blocks_of(found, paths['aggregates']), asked.query)
+    blocks = hosts.blocks_by(found, paths['aggregates'], by) if by else hosts.blocks_of(found, paths['aggregates'])
+    return hosts.picture(found, blocks, asked.query)
 
 
 def main():
@@ -86,8 +113,8 @@ def main():
         why, *status = fault.args
         print(f'draw-cloud: {why}', file=sys.stderr)
         sys.exit(*status or (1,))
-    except UNREADABLE as fault:
-        sys.exit(f'draw-cloud: the tables, the token or the hosts can\'t be read ({fault!r}); `ac_cli check` tells a fault of the tables')
+    except UNREADABLE:
+        sys.exit('draw-cloud: the tables can\'t be read; `ac_cli check` tells a fault of the tables')
     try:
         with open(1, 'wb', closefd=False) as out:
             out.writelines(line.encode() + b'\n' for line in lines)

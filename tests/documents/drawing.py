@@ -247,6 +247,32 @@ def odd_names():
     yield from picture.wrong()
 
 
+def long_numbers():
+    """Differences if a number is cut where a line is too long: it is the name of the class that is, and the pointer shows it whole."""
+    widest = 'CUSTOM_LICENSE total 2147483647, allocation_ratio 1000000000000000.0'
+    with folder_of(f'P1 | | NET_BW_EGR_KILOBIT_PER_SEC total 25000000, used 4500000; {widest}\nP2 | P1 |') as folder:
+        svg, err, _ = drawn('--tables', folder, '--token', full(','.join(['P2', 'P2', *16 * ['P1']])))
+    picture = Picture(svg)
+    lines = picture.boxes().get(full('P1'), [0, []])[1]
+    wanted = [full('P1'), 'slot 3, 4, 5, 6, 7, 8, 9, 10, 11, 12, 13, 14, …', 'CUSTOM_…: 2147483647000000000000000 of 2147483647000000000000000 left',
+              'NET_BW_EGR_KILOBIT_P…: 20500000 of 25000000 left']
+    if err or lines != wanted or 'NET_BW_EGR_KILOBIT_PER_SEC: 20500000 of 25000000 left' not in [one.text for one in picture.all.iter(SVG + 'title')]:
+        yield f'long numbers: {err}{lines}'
+    yield from picture.wrong()
+
+
+def traits_asked():
+    """Differences if a query changes more in a picture of trees than which traits of all hosts stand in their boxes."""
+    rows = 'P1 | | VCPU total 8, used 3 | CUSTOM_A, CUSTOM_B\nP2 | | VCPU total 8 | CUSTOM_A, CUSTOM_B'
+    with folder_of(rows, {'P1': 'cmp-1', 'P2': 'cmp-2'}) as folder:
+        for words, traits, note in ((), [], 'CUSTOM_A, CUSTOM_B'), (('--query', 'resources=VCPU:6&required=CUSTOM_A'), ['CUSTOM_A'], 'CUSTOM_B'):
+            picture = Picture(drawn('--tables', folder, *words)[0])
+            wanted = {'cmp-1': ([0], ['cmp-1', full('P1'), 'VCPU: 5 of 8 left', *traits], False),
+                      'cmp-2': ([1], ['cmp-2', full('P2'), 'VCPU: 8 of 8 left', *traits], False)}
+            if (picture.boxes(), picture.below()) != (wanted, f'Every host here also has: {note}'):
+                yield f'trees, and the query {words}: {picture.boxes()}, and below {picture.below()}'
+
+
 def hosts_text(hosts):
     with io.StringIO() as out:
         csv.writer(out, lineterminator='\n').writerows([('root', 'name', 'fits', 'slot', 'lacks'), *hosts])
@@ -322,11 +348,52 @@ def squares():
         yield from (f'{number} hosts: {what}' for what in differences)
 
 
+def in_rows(svg):
+    """What stands in each line of a picture of hosts, from left to right: its words, and what its squares say before the first blank."""
+    lines = {}
+    picture = Picture(svg)
+    for one in picture.all.iter(SVG + 'text'):
+        lines.setdefault(float(one.get('y')), []).append((float(one.get('x')), said(one)))
+    for one in picture.classed('host'):
+        lines.setdefault(place(one).y + 10, []).append((place(one).x, one.find(SVG + 'title').text.partition(' ')[0]))
+    return [[words for _, words in sorted(line)] for _, line in sorted(lines.items())]
+
+
+def in_order():
+    """Differences if the squares of a row don't stand in the order of names, 2 before 10, with those without a name behind, in that of UUIDs."""
+    names = {'P3': '', 'P1': 'cmp-10', 'P6': 'cmp-2', 'P4': 'cmp-b', 'P5': '', 'P2': 'cmp-002', 'P8': 'cmp-1'}
+    svg, err, _ = drawn('--hosts', '-', given=hosts_text((full(one), name, 'yes', '', '') for one, name in names.items()))
+    wanted = ['in no aggregate', '7 of 7 fit', 'cmp-1', 'cmp-002', 'cmp-2', 'cmp-10', 'cmp-b', full('P3:'), full('P5:')]
+    if err or in_rows(svg)[1:] != [wanted]:
+        yield f'the order of squares: {err}{in_rows(svg)}'
+
+
+def rows_chosen():
+    """Differences in pictures whose rows are named. P2 is in two of the aggregates, P4 in another, P5 in none, and P3 in one to which a child of P6 belongs."""
+    rows = 'P1 | | | | A1\nP2 | | | | A1, A2\nP3 | | | | A2, A3\nP4 | | | | A3\nP5 | |\nP6 | | | | A1\nP7 | P6 | | | A2'
+    lacks = {'P1': '', 'P2': '', 'P3': 'room', 'P4': '', 'P5': 'units', 'P6': 'room'}
+    given = hosts_text((full(one), f'cmp-{one[1:]}', 'no' if kind else 'yes', '1' if kind else '', kind) for one, kind in lacks.items())
+    both = [['fit: 2 of 4'], ['lack room: 2 (slot 1: 2)'], ['az <2>', '1 of 2 fit', 'cmp-2', 'cmp-3'], [full('A1'), '2 of 3 fit', 'cmp-1', 'cmp-2', 'cmp-6'],
+            ['not shown: 2, in none of these aggregates (1 of 2 fit)']]
+    every = [['fit: 3 of 6'], ['lack units: 1 (slot 1: 1)'], ['lack room: 2 (slot 1: 2)'], [full('A1'), '2 of 3 fit', 'cmp-1', 'cmp-2', 'cmp-6'],
+             [full('A2'), '0 of 1 fit', 'cmp-3'], [full('A3'), '1 of 1 fit', 'cmp-4'], ['in no aggregate', '0 of 1 fit', 'cmp-5']]
+    alone = [['fit: 0 of 0'], ['nobody', '0 of 0 fit'], ['not shown: 6, in none of these aggregates (3 of 6 fit)']]
+    with folder_of(rows) as folder:
+        for words, wanted in (([f'--by={full("A2")}=az <2>,{full("A1").upper()}'], both), ([f'--by={full("A2")}=az <2>', f'--by={full("A1")}='], both),
+                              ([f'--by={full("A9")}=nobody'], alone), ([], every)):
+            svg, err, _ = drawn('--hosts', '-', '--tables', folder, *words, given=given)
+            if err or in_rows(svg) != wanted:
+                yield f'rows by {words}: {err}{in_rows(svg)}, and not {wanted}'
+            yield from Picture(svg).wrong()
+
+
 def refused():
-    """Differences in the messages about what can't be drawn."""
+    """Differences in the messages about what can't be drawn, which are words, and never those of an exception."""
+    strange = "draw-cloud: -: this isn't what ac_cli hosts writes: "
     cloud = ('--tables', os.path.join(EXAMPLES, 'cloud'))
     other = '00000000-0000-0000-0000-000000000001'
     rows = '\n'.join(f'P{at} | | VCPU total 8' for at in range(1, 32))
+    first_row = HEADERS['inventories'] + f'{other},VCPU,8,0,1,8,1,'
     circle, wrong = (HEADERS['providers'] + full(lines) for lines in ('P1,P1,\nP2,P1,P3\nP3,P1,P2\n', 'P1,P2,\nP2,P2,P1\n'))
     with folder_of(rows, {'P1': 'one', 'P2': 'one', 'P3': 'two'}) as folder:
         single = ('--providers', os.path.join(folder, 'providers.csv'))
@@ -334,8 +401,8 @@ def refused():
                 ((*cloud, f'--token={other}'), '', 1, f'draw-cloud: there is no provider {other}\n'),
                 ((*cloud, f'--tree={other}'), '', 1, f'draw-cloud: there is no provider {other}\n'),
                 ((*cloud, '--tree=compute-03'), '', 1, 'draw-cloud: there is no provider compute-03\n'),
-                ((*cloud, '--token=x'), '', 1, '`ac_cli check` tells a fault'),
-                (('--tables', os.path.join(folder, 'absent')), '', 1, 'No such file'),
+                ((*cloud, f'--token={other},x'), '', 2, "draw-cloud: --token: 'x' isn't a UUID; a token is a line of `ac_cli tokens`\n"),
+                (('--tables', os.path.join(folder, 'absent')), '', 1, f'draw-cloud: {folder}/absent/providers.csv: No such file or directory\n'),
                 (('--tables', folder), '', 2, 'draw-cloud: 31 trees are too many for a picture. Name some (--tree), or give a --token, or draw a square for '
                                               'each: ac_cli hosts QUERY --tables DIR | tools/draw-cloud.py --hosts - --tables DIR\n'),
                 (('--tables', folder, '--tree=one'), '', 1, 'draw-cloud: 2 providers are named one; give the UUID of one\n'),
@@ -343,24 +410,40 @@ def refused():
                 (('--tables', folder, f'--tree={other}'), '', 0, ''),
                 (('--tables', folder, f'--token={other}'), '', 0, ''),
                 ((*single, '--inventories', os.path.join(folder, 'usages.csv')), '', 2, '31 trees are too many'),
-                ((*single, '--tree=two', '--inventories', os.path.join(folder, 'usages.csv')), '', 1, "KeyError('total')"),
+                ((*single, '--tree=two', '--inventories', os.path.join(folder, 'usages.csv')), '', 1,
+                 f'draw-cloud: {folder}/usages.csv: the column total is missing\n'),
+                ((*single, '--tree=two', '--inventories', '-'), first_row + 'x\n', 1,
+                 "draw-cloud: -: line 2: allocation_ratio is 'x' and not a number\n"),
+                ((*single, '--tree=two', '--inventories', '-'), HEADERS['inventories'] + other + '\n', 1, 'draw-cloud: -: line 2: it has too few columns\n'),
                 (('--tables', folder, *single), '', 2, '--tables names all tables\n'),
                 (single, '', 2, 'the tables are missing'),
-                (('--providers', os.devnull, '--inventories', os.devnull), '', 1, "KeyError('uuid')"),
+                (('--providers', os.devnull, '--inventories', os.devnull), '', 1, f'draw-cloud: {os.devnull}: it is empty\n'),
+                (('--providers', folder, '--inventories', os.devnull), '', 1, f'draw-cloud: {folder}: Is a directory\n'),
                 (('--providers', '-', '--inventories', os.devnull), HEADERS['providers'], 1, 'draw-cloud: there are no providers\n'),
                 (('--providers', '-', '--inventories', os.path.join(folder, 'inventories.csv')), circle, 1, 'are not below it'),
                 (('--providers', '-', '--inventories', os.devnull), wrong, 1, 'has a wrong root'),
                 (('--hosts', '-', '--tables', folder, '--tree=two'), '', 2, '--hosts draws no trees\n'),
-                (('--hosts', '-'), 'root,name\n', 1, "KeyError('fits')"),
-                (('--hosts', '-'), hosts_text([('x', '', 'yes', '', '')]), 1, "can't be read"),
-                (('--hosts', '-'), hosts_text([(other, '', 'perhaps', '', '')]), 1, "can't be read"),
+                (('--hosts', '-'), '', 1, strange + 'it is empty\n'),
+                (('--hosts', '-'), f'{other},{other}\n{other},{other}\n', 1, strange + 'the column root is missing\n'),
+                (('--hosts', '-'), 'root,name\n', 1, strange + 'the column fits is missing\n'),
+                (('--hosts', '-'), 'root,na\0me\n', 1, strange),
+                (('--hosts', '-'), hosts_text([(other, 'one')]), 1, strange + 'line 2: it has too few columns\n'),
+                (('--hosts', '-'), hosts_text([('x', '', 'yes', '', '')]), 1, strange + "line 2: root is 'x' and not a UUID\n"),
+                (('--hosts', '-'), hosts_text([(other, '', 'perhaps', '', '')]), 1, strange + "line 2: fits is 'perhaps' and not yes or no\n"),
+                (('--hosts', '-', '--tables', os.path.join(folder, 'absent')), hosts_text([]), 1, 'aggregates.csv: No such file or directory\n'),
+                (('--hosts', '-', '--tables', folder, '--by=az1'), '', 2,
+                 "draw-cloud: --by: 'az1' isn't a UUID; give the UUIDs of aggregates between commas, each alone or as UUID=NAME\n"),
+                (('--hosts', '-', '--tables', folder, f'--by={other}=a, b'), '', 2, "draw-cloud: --by: ' b' isn't a UUID; give"),
+                (('--hosts', '-', '--tables', folder, f'--by={other},'), '', 2, "draw-cloud: --by: '' isn't a UUID; give"),
+                (('--hosts', '-', f'--by={other}'), '', 2, 'the aggregates are missing: --tables, or --aggregates\n'),
+                (('--tables', folder, f'--by={other}'), '', 2, '--by needs --hosts\n'),
                 (('--hosts', '-'), hosts_text([(other, '', 'yes', '', '')]), 0, '')):
             svg, err, ended = drawn(*words, given=given)
-            if (ended, bool(svg)) != (status, not status) or says not in err or not says and err:
+            if (ended, bool(svg)) != (status, not status) or says not in err or not says and err or re.search('Error|Errno|Traceback', err):
                 yield f'{words}: status {ended}, {err}'
 
 
 if __name__ == '__main__':
-    found = [*by_chance(40), *large(), *odd_names(), *squares(), *refused()]
+    found = [*by_chance(40), *large(), *odd_names(), *long_numbers(), *traits_asked(), *squares(), *in_order(), *rows_chosen(), *refused()]
     print(''.join(line + '\n' for line in found), end='')
     sys.exit(1 if found else 0)

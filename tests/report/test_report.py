@@ -182,8 +182,10 @@ def told(row):
 
 
 def in_order(found):
-    """The rows of `hosts` in the order of names, in which 9 comes before 10."""
-    return sorted(found, key=lambda row: ([int(part) if at % 2 else part for at, part in enumerate(re.split('([0-9]+)', row['name']))], row['root']))
+    """The rows of `hosts` in the order of names, in which 9 comes before 10, and which come before none."""
+    def place(row):
+        return not row['name'], [int(part) if at % 2 else part for at, part in enumerate(re.split('([0-9]+)', row['name']))], row['root']
+    return sorted(found, key=place)
 
 
 class Checks(unittest.TestCase):
@@ -279,7 +281,7 @@ class Written(Checks):
             self.assertEqual(part['zones'], ['<b>one fits at 1 of 2 hosts', f'{full("A2")} fits at 2 of 3 hosts', 'nobody fits at 0 of 0 hosts',
                                              'in no zone fits at 0 of 2 hosts'])
             labels = [[re.sub(' (fits|lacks)( .*)?$', '', title) for _, title in zone] for zone in part['squares']]
-            self.assertEqual(labels, [[SCRIPT, QUOTED], [full('P3'), QUOTED, 'host-9'], [], ['--><!--', 'host-10']])
+            self.assertEqual(labels, [[SCRIPT, QUOTED], [QUOTED, 'host-9', full('P3')], [], ['--><!--', 'host-10']])
             self.assertEqual(page.commands[-3:], [f'ac_cli audit --tables {folder} --zone {full(zone)}' for zone in ('A1', 'A2', 'A9')])
 
     def refused(self, says, status, *words):
@@ -298,6 +300,8 @@ class Written(Checks):
             for status in 2, 7:
                 with audited('first line\nsecond line\n', status) as failing:
                     self.refused('report: audit: first line\n', status, folder, flavors, '--program', failing)
+            with audited('kind\nstrange\n') as strange:
+                self.refused("report: what the program wrote can't be read\n", 1, folder, flavors, '--program', strange)
             full_device = ran('sh', '-c', 'exec python3 -B "$@" >/dev/full', 'report', TOOL, folder, flavors, '--program', program)
             self.assertEqual((full_device.stderr, full_device.returncode), ("report: the page can't be written (No space left on device)\n", 1))
 

@@ -5,7 +5,7 @@ import math
 from collections import Counter
 from dataclasses import dataclass
 
-from pictures.cloud import identity, rows
+from pictures.cloud import members_of, rows
 from pictures.svg import GREY, document, lines_of, natural, rectangle, text, width_of
 
 COLUMNS = 'root', 'name', 'fits', 'slot', 'lacks'
@@ -43,26 +43,37 @@ class Host:
         return f'{self.name} {self.root}: {what}' if self.name else f'{self.root}: {what}'
 
 
+def order(host):
+    """By this key hosts stand in the order of their names, and those without one behind, in that of their UUIDs."""
+    return not host.name, natural(host.name), host.root
+
+
 def hosts_of(path):
-    """The rows, in the order of names."""
-    found = []
-    for root, name, fits, slot, lacks in rows(path, *COLUMNS):
-        if fits not in ('yes', 'no'):
-            raise ValueError(f'{fits!r} is neither yes nor no')
-        found.append(Host(identity(root), name, fits == 'yes', slot, lacks))
-    return sorted(found, key=lambda host: (natural(host.name), host.root))
+    """The rows, in order."""
+    return sorted((Host(*row) for row in rows(path, *COLUMNS, told="this isn't what ac_cli hosts writes: ")), key=order)
 
 
 def blocks_of(hosts, path):
     """The roots of each aggregate, in the order of their UUIDs. A root in several aggregates stands in the first of them, and those in none come last."""
     first = {}
     for one, aggregate in rows(path, 'resource_provider', 'uuid'):
-        one, aggregate = identity(one), identity(aggregate)
         first[one] = min(first.get(one, aggregate), aggregate)
     blocks = {}
     for host in hosts:
         blocks.setdefault(first.get(host.root, ''), []).append(host)
     return sorted(blocks.items(), key=lambda block: (not block[0], block[0]))
+
+
+def blocks_by(hosts, path, asked):
+    """The roots of each of these aggregates, under the title that it is given. A root in several of them stands in each, and those in none do nowhere."""
+    inside = members_of(path)
+    return [(title, [host for host in hosts if host.root in inside.get(aggregate, ())]) for aggregate, title in asked]
+
+
+def not_shown(hosts):
+    """A line about the roots that stand in no row, if there are any."""
+    if hosts:
+        yield f'not shown: {len(hosts)}, in none of these aggregates ({sum(host.fits for host in hosts)} of {len(hosts)} fit)'
 
 
 def legend(hosts):
@@ -77,11 +88,12 @@ def legend(hosts):
 
 
 def picture(hosts, blocks, query=''):
-    """The picture of these roots, below the query."""
+    """The picture of the roots in these rows, below the query. Those in no row are counted below, and not in the legend."""
+    here = {host.root for _, block in blocks for host in block}
     labels = [(aggregate or 'in no aggregate', f'{sum(host.fits for host in block)} of {len(block)} fit') for aggregate, block in blocks]
     counts = EDGE + max((width_of(name, SIZE) for name, _ in labels), default=0) + EDGE
     left = counts + max((width_of(count, SIZE) for _, count in labels), default=0) + EDGE
-    colours = list(legend(hosts))
+    colours = list(legend([host for host in hosts if host.root in here]))
     width = max([left + PITCH * min(PER_ROW, max((len(block) for _, block in blocks), default=0)), NARROW,
                  *(3 * EDGE + width_of(words, SIZE) for _, words in colours)]) + EDGE
     parts, down = [f'<g stroke="{GREY}" stroke-width="0.5">'], EDGE
@@ -98,4 +110,8 @@ def picture(hosts, blocks, query=''):
             x, y = left + PITCH * (at % PER_ROW), down + PITCH * (at // PER_ROW)
             parts.append(rectangle('host', x, y, SIDE, SIDE, host.colour(), host.told()))
         down += PITCH * math.ceil(len(block) / PER_ROW)
+    for words in not_shown([host for host in hosts if host.root not in here]):
+        down += EDGE
+        heads.append((EDGE, down + SIZE - 1, words))
+        down += LINE
     return document(width, down + EDGE, [*parts, '</g>', *(text(x, y, words, SIZE) for x, y, words in heads)])

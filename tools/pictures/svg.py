@@ -5,6 +5,7 @@ import html
 import re
 import textwrap
 import unicodedata
+from string import digits
 
 # The widest of these fonts has letters of 0.602 times their size.
 FONTS = 'DejaVu Sans Mono,Liberation Mono,Menlo,Consolas,Courier New,monospace'
@@ -37,9 +38,12 @@ def width_of(words, size):
 
 
 def cut(words, most):
-    """Words on one line, which ends where it would have more letters than this."""
+    """Words on one line, which ends where it would have more letters than this, or before the number there."""
     words = plain(words)
-    return words if len(words) <= most else words[:most - 1] + '…'
+    if len(words) <= most:
+        return words
+    begin = words[:most - 1]
+    return (begin.rstrip(digits) if words[most - 1] in digits else begin) + '…'
 
 
 def lines_of(words, width, size):

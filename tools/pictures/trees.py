@@ -5,10 +5,11 @@ import math
 from dataclasses import dataclass
 
 from pictures.cloud import SHARES, NotDrawn, sharing
-from pictures.svg import GREY, arrow, cut, document, line, lines_of, natural, rectangle, text, width_of
+from pictures.svg import GREY, arrow, cut, document, line, lines_of, natural, plain, rectangle, text, width_of
 
 NARROW, WIDE = 1200, 2000  # the least and the most width of a page, which no row of frames is wider than
 LONGEST = 48  # how many letters of a line stand in a box
+SHORTEST = 8  # how many letters of a class's name do, however long the numbers behind it are
 EDGE = 16  # the room around the picture, and between frames
 PAD = 12  # the room around the boxes of a frame
 FALL = 28  # the room between a box and those below it
@@ -23,11 +24,18 @@ MARKED = {'fill': '#ffe9c9', 'stroke': '#b3470f', 'stroke-width': 3}
 
 @dataclass
 class Row:
-    """A line of text in a box."""
+    """A line of text in a box. If it is too long, its words are cut, and not the numbers behind them."""
     words: str
     size: int
     centred: bool = False
     bold: bool = False
+    numbers: str = ''
+
+    def whole(self):
+        return plain(self.words) + self.numbers
+
+    def shown(self):
+        return cut(self.words, max(LONGEST - len(self.numbers), SHORTEST)) + self.numbers
 
     def height(self):
         return self.size * 1.35
@@ -42,7 +50,7 @@ class Box:
     y: float = 0
 
     def __post_init__(self):
-        self.width = max(width_of(cut(row.words, LONGEST), row.size) for row in self.rows) + 2 * PAD
+        self.width = max(width_of(row.shown(), row.size) for row in self.rows) + 2 * PAD
         self.height = sum(row.height() for row in self.rows) + PAD
 
     def middle(self):
@@ -55,8 +63,8 @@ class Box:
         for row in self.rows:
             down += row.height()
             x, align = (self.middle(), 'middle') if row.centred else (self.x + PAD, 'start')
-            shown = cut(row.words, LONGEST)
-            yield text(x, down - row.size * 0.35, shown, row.size, align, row.bold, row.words if shown.endswith('…') else '')
+            shown, whole = row.shown(), row.whole()
+            yield text(x, down - row.size * 0.35, shown, row.size, align, row.bold, whole if shown != whole else '')
         yield '</g>'
 
 
@@ -69,7 +77,7 @@ def rows_of(one, slots, traits):
     if slots:
         yield Row(f'slot {", ".join(map(str, slots))}', 11, centred=True, bold=True)
     for name, capacity in sorted(one.capacity.items()):
-        yield Row(f'{name}: {capacity - one.used.get(name, 0)} of {capacity} left', 11)
+        yield Row(name, 11, numbers=f': {capacity - one.used.get(name, 0)} of {capacity} left')
     for name in sorted(traits):
         yield Row(name, 9)
     for aggregate in sorted(one.aggregates):
