@@ -65,6 +65,13 @@ def asked():
     """A case for each thing that is said of a query, a token or a host."""
     yield tokens('resource=VCPU:1', 'pair 1: UnknownParameter', '"resource": no parameter; resources?', 'resources=VCPU:1')
     yield bad_value('resources1', 'VCPU=1', RESOURCES, 'VCPU:1')
+    yield bad_value('resources1', 'VCPU:1:1', RESOURCES, 'VCPU:1')
+    # Of several, the first that is wrong: no class with its amount, or a class for the second time.
+    for value, wrong in (('VCPU:1,DISK_GB:0', 'DISK_GB:0'), ('VCPU:1,DISK_GB:1,VCPU:2', 'VCPU:2'), ('VCPU:1,VCPU:1,DISK_GB', 'VCPU:1'),
+                         ('VCPU:1,disk_gb:1,VCPU:1', 'disk_gb:1'), ('VCPU:0,VCPU:1', 'VCPU:0'), ('DISK_GB:1,VCPU:1,', ''), (',', ''),
+                         ('VCPU:1,DISK_GB:2147483648', 'DISK_GB:2147483648'), ('VCPU:1, DISK_GB:1', ' DISK_GB:1')):
+        yield bad_value('resources1', value, f'"{wrong}" is wrong: {RESOURCES}', 'VCPU:1,DISK_GB:1')
+    yield tokens(f'resources=VCPU:1,{LONG}fg', 'pair 1: BadValue', f'resources="VCPU:1,{LONG[:57]}"..: "{LONG}f".. is wrong: {RESOURCES}', 'resources=VCPU:1')
     yield bad_value('required', 'hw_cpu', f'{TRAITS}; HW_CPU?', 'HW_CPU')
     yield bad_value('required', 'HW_CPU ^CUSTOM_B', f'{TRAITS}, between commas, with ! before what is forbidden', 'HW_CPU,!CUSTOM_B')
     yield bad_value('required', 'in:HW_CPU,CUSTOM_B', 'in: is read by --microversion 1.39', 'in:HW_CPU,CUSTOM_B', then=LATER)
@@ -117,6 +124,7 @@ def slots(number):
 
 
 # Of each table its faults of records.
+LACKS = 'the header lacks this column; export the table with all its columns'
 NAME = 'is written A-Z, 0-9 and _; give its name as the cloud has it'
 NUMBER = '1 to 10 digits, at most 2147483647; write no sign, point or blank'
 UUID = 'not a UUID; give one of 32 hexadecimal digits, and take out a header between records'
@@ -126,7 +134,7 @@ STRAY = 'not in the table of providers; export all tables together, or take the 
 WRONG_ROOT = "not the root of the provider's tree; give the UUID of its topmost parent, or its own if it has none"
 ROWS = {
     'providers': [
-        Row('record 1: MissingColumn', 'root_provider_uuid,', 'root,', ', root_provider_uuid: the header lacks this column; export the table with all its columns'),
+        Row('record 1: MissingColumn', 'root_provider_uuid,', 'root,', f', root_provider_uuid, header "uuid,root,parent_provider_uuid,name": {LACKS}'),
         Row('record 1: DoubleColumn', 'name\n', 'uuid\n', ', uuid: the header has this column twice; take one of them out'),
         Row('record 2: Width', ',host\n', ',host, old\n',
             f', fields 5, header 4, provider P1: {WIDTH}', [',"host, old"\n']),
@@ -165,10 +173,15 @@ ROWS = {
         Row('record 2: UnknownProvider', 'P1,VCPU,2\n', '{P9},VCPU,2\n', f', resource_provider "{{P9}}", VCPU: {STRAY}', ['']),
         Row('record 2: BadNumber', 'VCPU,2', 'VCPU,x', f', usage "x", provider P1, VCPU: {NUMBER}'),
         # The first column that is at fault in the order of the table, whatever the order of the header.
-        Row('record 1: MissingColumn', 'resource_provider,resource_class,usage\n', 'resource_provider\n',
-            ', resource_class: the header lacks this column; export the table with all its columns'),
+        Row('record 1: MissingColumn', 'resource_provider,resource_class,usage\n', 'resource_provider\n', f', resource_class, header "resource_provider": {LACKS}'),
         Row('record 1: DoubleColumn', 'resource_provider,resource_class,usage\n', 'usage,usage,resource_class,resource_class,resource_provider\n',
             ', resource_class: the header has this column twice; take one of them out'),
+        # The header, with a comma between each two of its fields, as values are shown.
+        *(Row('record 1: MissingColumn', 'resource_provider,resource_class,usage\n', f'{header}\n', f', resource_provider, header {shown}: {LACKS}') for header, shown in [
+            ('resource_provider;resource_class;usage', '"resource_provider;resource_class;usage"'), ('provider\tclass\tusage', r'"provider\x09class\x09usage"'),
+            ('<html>', '"<html>"'), ('\x1f\x08\x00', r'"\x1f\x08\x00"'), (',resource_class,usage', '",resource_class,usage"'), (',,', '",,"'), ('""', '""'),
+            ('"resource_provider,resource_class",usage', '"resource_provider,resource_class,usage"'), (LONG + 'f', f'"{LONG}f"'), (LONG + 'fg', f'"{LONG}f"..'),
+            (LONG + ',usage', f'"{LONG},"..'), ('a' * 70000, f'"{"a" * 64}"..')]),
     ],
     'traits': [
         Row('record 3: BadTrait', 'P1,CUSTOM_A', 'P1,custom_a', f', name "custom_a", provider P1: a trait {NAME}'),

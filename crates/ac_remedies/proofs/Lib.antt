@@ -1,3 +1,5 @@
+pub mod FieldsJoined
 mod ItemsTold
+mod ItemsWrong
 mod NamesOpposed
 mod SlotsTold

@@ -8,6 +8,7 @@ mod groups;
 mod lines;
 mod near;
 mod pairs;
+mod resources;
 mod tokens;
 mod traits;
 mod wanted;

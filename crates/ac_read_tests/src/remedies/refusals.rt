@@ -46,6 +46,16 @@ fn value(rt: HostRuntime) {
 }
 
 #[test]
+fn resources(rt: HostRuntime) {
+    check_pair(
+        &rt,
+        "limit=1&resources=VCPU:1,DISK_GB:1,VCPU:2",
+        &QueryFault::BadValue(2),
+        "  resources=\"VCPU:1,DISK_GB:1,VCPU:2\": \"VCPU:2\" is wrong: CLASS:AMOUNT between commas, with : where the client has =; each class once, in A-Z, 0-9 and _; amounts from 1 to 2147483647\n",
+    );
+}
+
+#[test]
 fn opposed(rt: HostRuntime) {
     check_pair(
         &rt,
@@ -117,6 +127,29 @@ fn width(rt: HostRuntime) {
         3,
         TableKind::Width,
         "  t.csv, fields 7, header 8, provider 00000000-0000-0000-0000-000000000001, MEMORY_MB: a record has as many fields as the header; put a field with a comma in quotes\n",
+    );
+}
+
+#[test]
+fn header(rt: HostRuntime) {
+    let src = Sources {
+        providers: b"uuid;root_provider_uuid,parent_provider_uuid\n",
+        inventories: INVENTORIES,
+        usages: None,
+        traits: None,
+        aggregates: None,
+    };
+    is_whole(
+        &rt,
+        record_remedy(
+            rt.alloc(),
+            "t.csv",
+            &src,
+            Table::Providers,
+            1,
+            TableKind::MissingColumn,
+        ),
+        "  t.csv, uuid, header \"uuid;root_provider_uuid,parent_provider_uuid\": the header lacks this column; export the table with all its columns\n",
     );
 }
 

@@ -1,9 +1,11 @@
 -- What is wanted of the value of a parameter.
-use Rattle.std.specs.Prelude.{ℕ, Bool, ◌&&◌, nat_eq, nat_le, List, [], ◌∷◌, drop, find, length, map, codes, Option, Some, None, unwrap_or, if◌then◌else◌}
+use Rattle.std.specs.Prelude.{ℕ, Bool, ◌&&◌, nat_eq, nat_le, nat_lt, List, [], ◌∷◌, drop, find, length, map, codes, Option, Some, None, unwrap_or, if◌then◌else◌}
 use Rattle.std.specs.Char.{to_ascii_uppercase}
 use Rattle.std.specs.List.{filter_map, list_all, list_any, range_with_len, starts_with}
+use Rattle.std.specs.Option.{option_map, option_map_or}
 use Rattle.ac_base.specs.Texts.{is_name}
 use Rattle.ac_query.specs.declared.version.Version.{Version}
+use Rattle.ac_query.specs.Pairs.Values.{need_value}
 use Rattle.ac_query.specs.Texts.{behind, has_text, items_of}
 use Rattle.ac_query.specs.Versions.{has_any_of}
 use Rattle.ac_remedies.specs.declared.queries.wanted.Form.{Form}
@@ -37,6 +39,30 @@ wanted form.Suffixes = codes "suffixes of groups between commas, in A-Z, a-z, 0-
 wanted form.Limit = codes "a number from 1 to 2147483647"
 wanted form.Unknown = codes "docs/REFERENCE.md says how values are written"
 
+-- the class of an item `CLASS:AMOUNT`
+abbrev pub class_in : List ℕ → Option (List ℕ)
+class_in item = option_map (λ need. need.0) (need_value item)
+
+-- the first of these items that isn't `CLASS:AMOUNT`, or whose class is one of these or an earlier item's
+unfoldable pub wrong_after : List (List ℕ) → List (List ℕ) → Option (List ℕ)
+wrong_after seen [] = None
+wrong_after seen (item ∷ items) =
+    option_map_or (λ class. if has_text seen class then Some item else wrong_after (class ∷ seen) items) (class_in item) (Some item)
+
+abbrev pub first_wrong : List ℕ → Option (List ℕ)
+first_wrong value = wrong_after [] (items_of value)
+
+-- the item that is named: where a value has several, the first that is wrong
+abbrev pub named_wrong : List ℕ → Option (List ℕ)
+named_wrong value = if nat_lt 1 (length (items_of value)) then first_wrong value else None
+
+unfoldable pub wrong_text : Option (List ℕ) → List ℕ
+wrong_text None = []
+wrong_text (Some item) = said (quoted item ∷ codes " is wrong: " ∷ [])
+
+abbrev pub resources_remedy : List ℕ → List ℕ
+resources_remedy value = said (wrong_text (named_wrong value) ∷ wanted form.Resources ∷ [])
+
 -- whether each item is the name of a trait, perhaps behind `!`
 abbrev pub is_marked : List ℕ → Bool
 is_marked item = is_name (unwrap_or (behind (codes "!") item) item)
@@ -67,6 +93,7 @@ list_remedy version =
 
 -- the remedy, by the form of the parameter
 abbrev pub value_remedy : Version → List ℕ → Form → List ℕ
+value_remedy version value form.Resources = resources_remedy value
 value_remedy version value form.Traits = if is_list value then list_remedy version else traits_remedy value
 value_remedy version value form.RootTraits = if is_list value then codes "root_required has no in: and asks for all its traits" else traits_remedy value
 value_remedy version value f = wanted f

@@ -1,6 +1,7 @@
 -- Where in a table a fault stands: a column with its value, and whose record it is.
 use Rattle.std.specs.Prelude.{ℕ, if◌then◌else◌, List, [], ◌∷◌, ◌++◌, codes, length}
 use Rattle.std.specs.Fmt.{decimal}
+use Rattle.std.specs.List.{join_with_byte}
 use Rattle.std.specs.Option.{option_map_or}
 use Rattle.std.specs.Str.{bytes_eq}
 use Rattle.ac_base.specs.Texts.{id_text, id_value, name_value}
@@ -54,9 +55,17 @@ class_text header row told = if bytes_eq told (name_of column.Class) then [] els
 unfoldable pub owner_text : Table → Row → Row → List ℕ → List ℕ
 owner_text t header row told = provider_text t header row told ++ class_text header row told
 
--- a column that breaks a check, and whose record it is; a column of the header stands alone
+-- the fields of a header, with a comma between each two
+abbrev pub header_text : Row → List ℕ
+header_text header = join_with_byte 44 header
+
+-- a column that the header lacks, with the header
+unfoldable pub missing_text : Row → Column → List ℕ
+missing_text header c = said (codes ", " ∷ name_of c ∷ codes ", header " ∷ quoted (header_text header) ∷ [])
+
+-- a column that breaks a check, and whose record it is; one that the header has twice stands alone
 unfoldable pub broken_text : Table → TableKind → Row → Row → Column → List ℕ
-broken_text t kind.MissingColumn header row c = codes ", " ++ name_of c
+broken_text t kind.MissingColumn header row c = missing_text header c
 broken_text t kind.DoubleColumn header row c = codes ", " ++ name_of c
 broken_text t kind.ReservedOverTotal header row c =
     field_text header row c ++ field_text header row column.Total ++ owner_text t header row (name_of c)

@@ -47,8 +47,8 @@ fn slots_text(alloc: Global, query: &Query) -> Result<Vec<u8>, AllocError>
     Ok(text)
 }
 
-// How many items stand between the commas of a list.
-fn count_items(list: &str) -> usize
+/// How many items stand between the commas of a list.
+pub(crate) fn count_items(list: &str) -> usize
     ensures { result ≡ length (items_of list.now) }
 {
     list.as_bytes().iter().filter(|b| **b == b',').count() + 1

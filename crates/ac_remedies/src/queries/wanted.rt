@@ -1,7 +1,8 @@
 //! What is wanted of the value of a parameter.
 ghost use Rattle.std.specs.Prelude.{◌≡◌, IfOk};
-ghost use Rattle.ac_remedies.specs.Queries.Wanted.{bad_value_remedy, form_of, has_escape, is_list, list_remedy, once, repeated_remedy, traits_remedy, wanted};
+ghost use Rattle.ac_remedies.specs.Queries.Wanted.{bad_value_remedy, form_of, has_escape, is_list, list_remedy, once, repeated_remedy, resources_remedy, traits_remedy, wanted};
 
+use crate::queries::resources::push_wrong;
 use crate::queries::traits::proposed;
 use crate::quoted::push_all;
 use ac_query::Version;
@@ -66,6 +67,16 @@ fn wanted(form: Form) -> &'static [u8]
     }
 }
 
+// What is said of resources.
+fn resources_remedy(alloc: Global, value: &str) -> Result<Vec<u8>, AllocError>
+    ensures { IfOk result (λ text. text.items ≡ resources_remedy value.now) }
+{
+    let mut text = Vec::new(alloc);
+    push_wrong(alloc, &mut text, value)?;
+    push_all(&mut text, &[wanted(Form::Resources)])?;
+    Ok(text)
+}
+
 // Whether a value is a list of which one trait is asked.
 fn is_list(value: &[u8]) -> bool
     ensures { result ≡ is_list value.now }
@@ -124,6 +135,7 @@ pub(crate) fn bad_value_remedy(
     }
     let form = form_of(name.as_bytes());
     match form {
+        Form::Resources => resources_remedy(alloc, value),
         Form::Traits if is_list(value.as_bytes()) => list_remedy(version).to_vec(alloc),
         Form::RootTraits if is_list(value.as_bytes()) =>
             b"root_required has no in: and asks for all its traits".to_vec(alloc),

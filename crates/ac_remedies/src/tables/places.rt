@@ -1,13 +1,14 @@
 //! Where in a table a fault stands: a column with its value, and whose record it is.
-ghost use Rattle.std.specs.Prelude.{◌≡◌, ◌++◌, OnOk};
+ghost use Rattle.std.specs.Prelude.{◌≡◌, ◌++◌, IfOk, OnOk};
 ghost use Rattle.csv.specs.Records.{fields_of};
 ghost use Rattle.ac_base.specs.Names.{class_bytes};
-ghost use Rattle.ac_remedies.specs.Tables.Places.{broken_text, class_mark, class_text, column_place, field_text, named_class, named_provider, owner_column, owner_text, place_text, provider_mark, provider_text, width_text};
+ghost use Rattle.ac_remedies.specs.Tables.Places.{broken_text, class_mark, class_text, column_place, field_text, header_text, missing_text, named_class, named_provider, owner_column, owner_text, place_text, provider_mark, provider_text, width_text};
 
 use crate::quoted::{push_all, push_quoted};
 use crate::tables::columns::{columns_of, first_broken};
 use ac_base::{ClassName, Id, NoMemory};
 use ac_tables::{Column, Found, Table, TableKind};
+use csv::ByteRecord;
 use std::alloc::{AllocError, Global};
 
 // Puts a column of a record with its value behind a text.
@@ -130,6 +131,37 @@ fn push_owner(
     push_class(alloc, text, found, told)
 }
 
+// The fields of a header, with a comma between each two.
+fn header_text(alloc: Global, header: &ByteRecord) -> Result<Vec<u8>, AllocError>
+    ensures { IfOk result (λ text. text.items ≡ header_text (fields_of header.now)) }
+{
+    let mut fields = header.iter();
+    let Some(first) = fields.next() else {
+        return Ok(Vec::new(alloc));
+    };
+    let mut text = first.to_vec(alloc)?;
+    for field in fields {
+        push_all(&mut text, &[b",", field])?;
+    }
+    Ok(text)
+}
+
+// Puts a column that the header lacks behind a text, with the header.
+#[tactic(auto, unfolding(crate::specs::Tables::Places::missing_text))]
+fn push_missing(
+    alloc: Global,
+    text: &mut Vec<u8>,
+    header: &ByteRecord,
+    column: Column,
+) -> Result<(), AllocError>
+    ensures { OnOk result (text.new.items ≡ text.old.items
+        ++ missing_text (fields_of header.now) column) }
+{
+    let header = header_text(alloc, header)?;
+    push_all(text, &[b", ", column.name(), b", header "])?;
+    push_quoted(text, &header)
+}
+
 // Puts a column of a record and whose record it is behind a text, with the total where the amount reserved is above it.
 #[tactic(auto, unfolding(crate::specs::Tables::Places::broken_text))]
 fn push_broken(
@@ -144,9 +176,8 @@ fn push_broken(
         ++ broken_text table kind (fields_of found.now.header) (fields_of found.now.row) column) }
 {
     match kind {
-        TableKind::MissingColumn | TableKind::DoubleColumn => {
-            Ok(push_all(text, &[b", ", column.name()])?)
-        }
+        TableKind::MissingColumn => Ok(push_missing(alloc, text, &found.header, column)?),
+        TableKind::DoubleColumn => Ok(push_all(text, &[b", ", column.name()])?),
         TableKind::ReservedOverTotal => {
             push_field(text, found, column)?;
             push_field(text, found, Column::Total)?;

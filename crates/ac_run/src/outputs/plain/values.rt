@@ -19,7 +19,7 @@ use std::alloc::Global;
 use std::collections::BTreeSet;
 
 /// Texts with a mark between each two.
-#[tactic(auto, using(crate::proofs::QueriesRead::joined_on))]
+#[tactic(auto, using(ac_remedies::proofs::FieldsJoined::joined_on))]
 pub(crate) fn joined(alloc: Global, mark: char, texts: &[String]) -> Result<String, NoMemory>
     requires { mark < 128 }
     ensures { IfOk result (λ text. string_bytes text

@@ -1,5 +1,5 @@
 use Rattle.std.proofs.Common.{◌≡◌, ◌∙◌, ◌∷◌, arith, map, string_bytes}
-use Rattle.ac_run.proofs.QueriesRead.{joined_on}
+use Rattle.ac_remedies.proofs.FieldsJoined.{joined_on}
 use Rattle.ac_run.proofs.outputs.plain.values.joined.Goals as goal
 
 pub loop-text-init : goal.loop-text-init
