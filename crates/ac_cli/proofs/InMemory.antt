@@ -1,5 +1,6 @@
 -- Over words and files in memory the program leaves the answer to what they ask.
 use Rattle.std.proofs.Common.{◌≡◌, ◌∙◌, ℕ, zero, suc, ◌≤◌, ◌<◌, Bool, true, false, List, [], ◌∷◌, ◌++◌, Option, Some, None, length, ◌⊎◌, inl, inr, if◌then◌else◌, refl, sym, ap, subst, arith, append-nil, append_assoc}
+use Rattle.std.proofs.lemmas.Bool.{cases_Bool}
 use Rattle.std.proofs.lemmas.Bool.Decides.{nat_tests}
 use Rattle.std.specs.Io.KnownBytes.{Appends, Keeps, append_known}
 use Rattle.ac_base.specs.Gathered.{IsFirstPart}
@@ -23,7 +24,7 @@ use Rattle.ac_tables.specs.FiveTables.{table_in}
 use Rattle.ac_words.specs.Words.{IsMadeOf, Line, Says, faults, file_called, is_tabled, named, task_in}
 use Rattle.ac_cli.specs.Files.{AreOpened, ExplainsUnread, HoldsChanges, HoldsFile, IsOpened}
 use Rattle.ac_cli.specs.InMemory.{AsksOver, Files, HoldsOver, SaysOver, held_by, HasFile, HasFiles, HasOwn, HasTables, bytes_at, file_bytes, left_by, needs}
-use Rattle.ac_cli.specs.Program.{HeldSession, Unread, EndsForLine, EndsForWords, EndsGiven, EndsLine, EndsProgram, IsToldUnread, Ran, RanCall, RanHeaders, RanJob, Streams, detail_in, is_check, note_behind, note_of, path_beside}
+use Rattle.ac_cli.specs.Program.{HeldSession, Unread, EndsForLine, EndsForWords, EndsGiven, EndsLine, EndsProgram, IsToldUnread, Ran, RanCall, RanHeaders, RanJob, Streams, detail_in, note_behind, path_beside}
 use Rattle.ac_cli.specs.declared.files.Beside.{Beside}
 use Rattle.ac_cli.specs.declared.files.Beside.TheVariants as beside
 use Rattle.ac_cli.specs.declared.files.FileUnread.{FileUnread}
@@ -92,15 +93,8 @@ module _ {R : Type 0} (remaining : R → Option (List ℕ)) (said : Bytes → Ou
   ]
 
 -- what is told behind an answer depends on its note alone where one was written
-same_note : (command : Command) (detail : Option Paths) (given : ℕ) (said note : List ℕ) → (given ≤ 1 → said ≡ note)
-    → note_behind command detail given said ≡ note_behind command detail given note
-same_note command detail given said note same = by (is_check command) (nat_le given 1) refl
-  where
-    by : (check small : Bool) → nat_le given 1 ≡ small
-        → (if check then note_of command detail given else (if small then said else [])) ≡ (if check then note_of command detail given else (if small then note else []))
-    by true small is = refl
-    by false true is = same (grind (arith, nat_tests, is))
-    by false false is = refl
+same_note : (given : ℕ) (said note : List ℕ) → (given ≤ 1 → said ≡ note) → note_behind given said ≡ note_behind given note
+same_note given said note same = elim (cases_Bool (nat_le given 1)) [ inl small ↦ rw small (same (grind (arith, nat_tests, small))) | inr great ↦ rw great refl ]
 
 -- a job leaves its answer, and its note behind it
 pub job_left : {R : Type 0} (remaining : R → Option (List ℕ)) (failures : R → ℕ) (task : Task) (from to : FiveTables R) (s : Streams) (given : ℕ) (b : Bytes)
@@ -111,11 +105,11 @@ job_left remaining failures task from to s given b tell read out_before out_afte
     let done = is_done remaining (answer task) _ _ from (record s { err_new = job.err; err_after = job.count }) given b tell (λ t unread. read t unread.rises)
     (still s.out_before s.out_after out_before out_after) (still s.err_before job.count err_before none) few job.ran in
     let note = job.note.whole (still job.count s.err_after none err_after) in
-    let same = same_note task.command task.detail given job.said (noted task b) (λ small. job.tied small b tell) in
+    let same = same_note given job.said (noted task b) (λ small. job.tied small b tell) in
     record {
       output = done.output;
       line = then_more s.err_old job.err s.err_new _ _ done.line
-          (subst (λ n. Appends job.err s.err_new (note_behind task.command task.detail n (noted task b))) done.status (subst (Appends job.err s.err_new) same note));
+          (subst (λ n. Appends job.err s.err_new (note_behind n (noted task b))) done.status (subst (Appends job.err s.err_new) same note));
       status = done.status;
     }
 

@@ -94,7 +94,7 @@ WordsAsk = (files : Files) (b : Bytes) → HasTables files (paths_in (codes "clo
 
 -- the answer to a task, and behind its line what is told then
 abbrev pub left_by : Task → Bytes → Outcome
-left_by task b = record (answer task b) { line = (answer task b).line ++ note_behind task.command task.detail (answer task b).status (noted task b) }
+left_by task b = record (answer task b) { line = (answer task b).line ++ note_behind (answer task b).status (noted task b) }
 
 -- the answers of a session to these lines
 abbrev pub held_by : {words : List Text} {files : Files} {b : Bytes} → HoldsOver words files b → List ℕ → Outcome

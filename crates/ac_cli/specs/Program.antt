@@ -98,25 +98,9 @@ Unread failures detail from to s t = IsUnread (FeedRose failures from to t) deta
 abbrev pub RanTask : {R : Type 0} → (R → Option (List ℕ)) → (R → ℕ) → Task → FiveTables R → FiveTables R → Streams → ℕ → Type 0
 RanTask remaining failures task from to s given = Ran remaining (answer task) (TaskMayStop task) (Unread failures task.detail from to s) from s given
 
-unfoldable pub usages_note : List ℕ
-usages_note = codes "usages: no table is given, so nothing counts as used\n"
-
--- what is told behind the answer to a check that is accepted, where more is told and no table of usages is given
-abbrev pub note_for : Option (List ℕ) → List ℕ
-note_for None = usages_note
-note_for (Some path) = []
-
-abbrev pub note_of : Command → Option Paths → ℕ → List ℕ
-note_of check (Some paths) zero = note_for paths.usages
-note_of _ _ _ = []
-
-abbrev pub is_check : Command → Bool
-is_check check = true
-is_check _ = false
-
--- what is told behind the answer to any other command: the note of its run, if that wrote an answer
-abbrev pub note_behind : Command → Option Paths → ℕ → List ℕ → List ℕ
-note_behind command detail given note = if is_check command then note_of command detail given else (if nat_le given 1 then note else [])
+-- what is told behind an answer: the note of its run, if that wrote it
+abbrev pub note_behind : ℕ → List ℕ → List ℕ
+note_behind given note = if nat_le given 1 then note else []
 
 -- A task was run over feeds that were these before and after, and then a note was told. In between the error stream had failed no more often than in the end,
 -- and no less often than at first, so a line that is missing failed to be written. Over bytes the note of the run is theirs.
@@ -127,7 +111,7 @@ pub record RanJob {R : Type 0} (remaining : R → Option (List ℕ)) (failures :
   pub ran : RanTask remaining failures task from to (record s { err_new = err; err_after = count }) given
   pub said : List ℕ
   pub tied : given ≤ 1 → (b : Bytes) → TellBytes remaining from b → said ≡ noted task b
-  pub note : TakesLine err s.err_new count s.err_after (note_behind task.command task.detail given said)
+  pub note : TakesLine err s.err_new count s.err_after (note_behind given said)
 
 -- ---- a session
 

@@ -73,20 +73,11 @@ fn ran<F: Feed, W: Sink + Drop, E: Sink>(
     }
 }
 
-// What is told behind the answer to a job, by the note of its run.
-#[tactic(auto, unfolding(crate::specs::Program::usages_note))]
-fn note_behind<'a>(job: &Job<'_>, status: u8, note: &'a [u8]) -> &'a [u8]
-    ensures { result.now
-        ≡ note_behind (task_of job.now).command (task_of job.now).detail status note.now }
+// What is told behind an answer, by the note of its run.
+fn note_behind(status: u8, note: &[u8]) -> &[u8]
+    ensures { result.now ≡ note_behind status note.now }
 {
-    match (job.command, job.detail, status) {
-        (Command::Check, Some(Paths { usages: None, .. }), 0) => {
-            b"usages: no table is given, so nothing counts as used\n"
-        }
-        (Command::Check, _, _) => b"",
-        (_, _, 0 | 1) => note,
-        _ => b"",
-    }
+    if status <= 1 { note } else { b"" }
 }
 
 // Runs a job, and then tells a note: its status, and the output sink.
@@ -102,7 +93,7 @@ fn ran_job<F: Feed, W: Sink + Drop, E: Sink>(
 {
     let mut note = Vec::new(alloc);
     let (status, out) = ran(alloc, job, inputs, out, err, &mut note);
-    tell_text(err, note_behind(job, status, &note));
+    tell_text(err, note_behind(status, &note));
     (status, out)
 }
 

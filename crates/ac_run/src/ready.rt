@@ -182,7 +182,7 @@ pub(crate) fn make_ready<R: Feed>(
 {
     let cloud = read_inputs(alloc, job.detail, job.changes, inputs)?;
     match read_wanted(alloc, job, &cloud) {
-        Ok(wanted) => match note_if_told(alloc, job.detail.is_some(), &cloud, &wanted) {
+        Ok(wanted) => match note_if_told(alloc, job, &cloud, &wanted) {
             Ok(note) => Ok(Ready {
                 cloud,
                 wanted,

@@ -1,18 +1,11 @@
-use Rattle.std.proofs.Common.{◌≡◌, ◌∙◌, ℕ, Bool, List, [], Option, None, Some, ap, ap₂, if◌then◌else◌, is_some, option_map, refl}
+use Rattle.std.proofs.Common.{◌∙◌, ap}
 use Rattle.ac_base.proofs.Small.{handed_on}
 use Rattle.ac_cloud.specs.Cloud.CloudWorld.{world_of}
 use Rattle.ac_run.specs.Answer.{answer_within, remedy_in, with_detail}
-use Rattle.ac_cloud.specs.World.{World}
-use Rattle.ac_query.specs.Laws.Gathered.{asked_by}
-use Rattle.ac_query.specs.Pairs.{pairs_of}
-use Rattle.ac_run.specs.Notes.{noted_by}
+use Rattle.ac_run.specs.Notes.{noted_in, told_behind}
 use Rattle.ac_run.specs.Tasks.{task_of}
 use Rattle.ac_run.proofs.Attempted.{as_answer, asked_told, in_answer}
 use Rattle.ac_run.proofs.ready.make_ready.Goals as goal
-
-some_kept : {X Y : Type 0} (f : X → Y) (o : Option X) → is_some o ≡ is_some (option_map f o)
-some_kept f None = refl
-some_kept f (Some x) = refl
 
 pub returns-in_err-cloud-clause-fault : goal.returns-in_err-cloud-clause-fault
 returns-in_err-cloud-clause-fault g c =
@@ -35,5 +28,5 @@ returns-in-Err-clause-fault g c =
 pub returns-in-Ok-note_if_told-clause-note : goal.returns-in-Ok-note_if_told-clause-note
 returns-in-Ok-note_if_told-clause-note g c = λ b tell.
     let task = task_of c.args.job.now in
-    let noted = c.in-Ok.ensures.note ∙ ap (λ (w : World). noted_by task.command w (asked_by task.version (pairs_of task.query))) (c.in_ok-cloud.ensures.stated b tell).states in
-    c.in-Ok-note_if_told.ensures ∙ ap₂ (λ (told : Bool) (note : List ℕ). if told then note else []) (c.is_some.ensures ∙ some_kept _ _) noted
+    c.in-Ok-note_if_told.ensures ∙ ap (told_behind task.command task.detail (world_of c.in_ok-cloud.cloud)) c.in-Ok.ensures.note
+    ∙ ap (noted_in task) (c.in_ok-cloud.ensures.stated b tell).states
