@@ -328,6 +328,11 @@ FOLDERS = [
 ]
 
 
+NINE = 'resources=VCPU:9'
+NO_USAGES = 'usages: no table is given, so nothing counts as used\n'
+NO_ROWS = 'usages: the table has no rows, so nothing counts as used\n'
+
+
 def in_detail(*words, status=0):
     """With `--detail` the program must answer as without it, byte for byte, where there is no fault and no rule is broken."""
     called = [*words, '--tables', CLOUD]
@@ -337,8 +342,12 @@ def in_detail(*words, status=0):
 DETAILS = [
     in_detail('check'),
     in_detail('audit'),
-    Case('check in detail without a table of usages', ['check', '--providers', PROVIDERS, '--inventories', INVENTORIES, '--detail'], EXAMPLE_COUNTS,
-         err='usages: no table is given, so nothing counts as used\n'),
+    *(Case(f'{words[0]} in detail without a table of usages', [*words, '--providers', PROVIDERS, '--inventories', INVENTORIES, '--detail'], out, err=NO_USAGES, status=status)
+      for words, out, status in ((['check'], EXAMPLE_COUNTS, 0), (['tokens', NINE], ONE_HOST, 0), (['verify', NINE, ONE_HOST.strip()], 'yes\n', 0),
+                                 (['explain', 'resources=PCPU:1'], SOME, 1))),
+    *(Case(f'{words[0]} in detail of no usages', [*words, '--detail'], out, err=err, tables={**tables(ONE), 'usages': HEADERS['usages']})
+      for words, out, err in ((['check'], 'providers 1\ninventories 1\nusages 0\ntraits 0\naggregates 0\n', NO_ROWS), (['tokens', 'resources=VCPU:2'], lines('P1'), ''))),
+    Case('query in detail', ['query', NINE, '--detail'], SOME),
     Case('a table in detail that is not there', ['check', '--tables', 'nowhere', '--detail'],
          err='providers: Unreadable\n  nowhere/providers.csv: there is no such file; give the path of a file that can be read\n', status=3),
     Case('a session in detail whose tables are refused', ['session', '--tables', 'nowhere', '--detail'],
@@ -645,6 +654,14 @@ def run(case, seconds=SECONDS, program=PROGRAM):
     return (ran.stdout or b'').decode(errors='replace'), (ran.stderr or b'').decode(errors='replace'), ran.returncode
 
 
+def told_first(case):
+    """What must come on standard error: with `--detail`, an answer of a command over tables tells first that no table of usages is given."""
+    given = case.together or 'usages' in case.tables or {'--usages', '--tables'} & set(case.words)
+    asked = case.status < 2 and '--detail' in case.words and case.words[0] not in ('query', 'session', 'sh') and (case.tables or '--providers' in case.words)
+    told = asked and not given and isinstance(case.err, str) and not case.err.startswith(NO_USAGES)
+    return NO_USAGES + case.err if told and case.err is not SOME else case.err
+
+
 def differs(what, has, wanted):
     if wanted is SOME:
         return None if has else f'there is no {what}'
@@ -658,7 +675,7 @@ def wrong(case):
     except subprocess.TimeoutExpired:
         return f'it had not ended after {SECONDS} seconds'
     wanted = case.out() if callable(case.out) else case.out
-    for what, has, wants, gone in ('output', out, wanted, case.to), ('standard error', err, case.err, case.err_to):
+    for what, has, wants, gone in ('output', out, wanted, case.to), ('standard error', err, told_first(case), case.err_to):
         why = None if gone else differs(what, has, wants)
         if why:
             return why
