@@ -1,5 +1,5 @@
 -- Over words and files in memory the program leaves the answer to what they ask.
-use Rattle.std.proofs.Common.{◌≡◌, ◌∙◌, ℕ, zero, suc, ◌≤◌, ◌<◌, Bool, true, false, List, [], ◌∷◌, ◌++◌, Option, Some, None, length, ◌⊎◌, inl, inr, if◌then◌else◌, refl, sym, ap, subst, arith, append-nil, append_assoc}
+use Rattle.std.proofs.Common.{◌≡◌, ◌∙◌, ℕ, zero, suc, ◌≤◌, ◌<◌, true, false, List, [], ◌∷◌, ◌++◌, Option, Some, None, length, ◌⊎◌, inl, inr, if◌then◌else◌, refl, sym, ap, subst, arith, append-nil, append_assoc}
 use Rattle.std.proofs.lemmas.Bool.{cases_Bool}
 use Rattle.std.proofs.lemmas.Bool.Decides.{nat_tests}
 use Rattle.std.specs.Io.KnownBytes.{Appends, Keeps, append_known}
@@ -14,7 +14,7 @@ use Rattle.std.specs.Option.{option_map}
 use Rattle.ac_run.specs.Feeds.{Bytes, FeedRose, RisesIn, TellBytes, is_long, is_long_there}
 use Rattle.ac_run.specs.Notes.{noted}
 use Rattle.ac_run.specs.Run.{FailsOr, IsAnswered, IsRefused}
-use Rattle.ac_run.specs.Tasks.{Command, Paths, Task}
+use Rattle.ac_run.specs.Tasks.{Paths, Task}
 use Rattle.ac_tables.specs.declared.fault.Table.{Table}
 use Rattle.ac_tables.specs.declared.fault.Table.TheVariants as table
 use Rattle.ac_tables.specs.declared.read.FiveTables.{FiveTables}

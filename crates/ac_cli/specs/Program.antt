@@ -1,5 +1,5 @@
 -- How the program ends, and what it leaves on its streams.
-use Rattle.std.specs.Prelude.{◌≡◌, ◌≢◌, ◌<◌, ◌≤◌, ◌⊎◌, ℕ, zero, List, [], ◌∷◌, ◌++◌, codes, length, nat_le, Option, Some, None, Contains, if◌then◌else◌, Bool, true, false}
+use Rattle.std.specs.Prelude.{◌≡◌, ◌≢◌, ◌<◌, ◌≤◌, ◌⊎◌, ℕ, List, [], ◌∷◌, ◌++◌, codes, length, nat_le, Option, Some, None, Contains, if◌then◌else◌, true, false}
 use Rattle.std.specs.Io.KnownBytes.{Appends, Keeps, append_known}
 use Rattle.clap.specs.Words.{IsAmong, Kinds, Row, Text}
 use Rattle.clap.specs.declared.error.kind.ErrorKind.{ErrorKind}
@@ -20,7 +20,7 @@ use Rattle.ac_run.specs.Notes.{noted}
 use Rattle.ac_run.specs.Run.{FailsOr, IsAnswered, IsRefused, IsUnread}
 use Rattle.ac_base.specs.Writing.{TakesLine}
 use Rattle.ac_run.specs.Stops.{TaskMayStop}
-use Rattle.ac_run.specs.Tasks.{Command, Paths, Task, check, tokens}
+use Rattle.ac_run.specs.Tasks.{Paths, Task, tokens}
 use Rattle.ac_session.specs.Lines.{most_passed}
 use Rattle.ac_session.specs.Held.{unnamed}
 use Rattle.ac_session.specs.Sessions.{AreUnread, session_answer, session_answer_with}
