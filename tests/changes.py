@@ -72,8 +72,9 @@ def draw_line(chance, cloud):
     host = chance.choice(cloud).name
     where = chance.choice([host, host, '*', 'in:' + chance.choice(AGGREGATES)])
     mark = chance.choice('+-')
+    more = '011' if max(map(number, cloud)) + len(cloud) < 10 else '0'  # so that names stand in the order of numbers
     return chance.choice([
-        ['disable', host], ['enable', host], ['remove', host], ['add', chance.choice('011'), 'like', host],
+        ['disable', host], ['enable', host], ['remove', host], ['add', chance.choice(more), 'like', host],
         ['trait', where, mark + chance.choice([*TRAITS, SHARES])],
         ['aggregate', where, mark + chance.choice(AGGREGATES)],
         ['set', where, chance.choice(CLASSES), *chance.choice([

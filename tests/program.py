@@ -343,7 +343,7 @@ DETAILS = [
     in_detail('check'),
     in_detail('audit'),
     *(Case(f'{words[0]} in detail without a table of usages', [*words, '--providers', PROVIDERS, '--inventories', INVENTORIES, '--detail'], out, err=NO_USAGES, status=status)
-      for words, out, status in ((['check'], EXAMPLE_COUNTS, 0), (['tokens', NINE], ONE_HOST, 0), (['verify', NINE, ONE_HOST.strip()], 'yes\n', 0),
+      for words, out, status in ((['check'], EXAMPLE_COUNTS, 0), (['tokens', NINE], ONE_HOST, 0), (['verify', NINE, ONE_HOST.strip()], 'candidate\n', 0),
                                  (['explain', 'resources=PCPU:1'], SOME, 1))),
     *(Case(f'{words[0]} in detail of no usages', [*words, '--detail'], out, err=err, tables={**tables(ONE), 'usages': HEADERS['usages']})
       for words, out, err in ((['check'], 'providers 1\ninventories 1\nusages 0\ntraits 0\naggregates 0\n', NO_ROWS), (['tokens', 'resources=VCPU:2'], lines('P1'), ''))),
