@@ -162,7 +162,6 @@ struct Case {
     command: Command<'static>,
     query: &'static str,
     version: Version,
-    changes: Option<&'static str>,
     output: &'static str,
     line: &'static str,
     status: u8,
@@ -177,7 +176,6 @@ const TOKENS: Case = Case {
     },
     query: "resources=VCPU:2",
     version: Version::V136,
-    changes: None,
     output: "",
     line: "",
     status: 0,
@@ -350,16 +348,12 @@ fn left_by(rt: &(impl Abort + AllocGlobal), case: &Case, turns: Turns) -> Result
     let alloc = rt.alloc();
     let query = expanded(alloc, case.query)?;
     let text = written_out(alloc, text_in(case.command))?;
-    let changes = written_out(alloc, case.changes)?;
     let job = Job {
         command: with_text(case.command, text.as_deref()),
         query: query.as_str(),
         version: case.version,
         tries: None,
-        changes: match &changes {
-            Some(changes) => Some(changes.as_bytes()),
-            None => None,
-        },
+        changes: None,
         detail: if turns.detail { Some(&PATHS) } else { None },
     };
     run_over(alloc, &case.rows, &job, turns)

@@ -41,29 +41,6 @@ fn an_answer_of_each_command(rt: HostRuntime) {
     check_all(&rt, &ANSWERS, SOUND);
 }
 
-static CHANGED: [Case; 2] = [
-    Case {
-        query: "resources=VCPU:2&required=CUSTOM_A",
-        changes: Some(
-            "# what if\nadd 2 like @1\ndisable @1\nenable @1\nset @1 VCPU total 1\naggregate * +@a\naggregate @3 -@a\n\
-            trait in:@a +CUSTOM_A\ntrait @3 -CUSTOM_A\nremove @3\n",
-        ),
-        output: "@2\n",
-        ..TOKENS
-    },
-    Case {
-        changes: Some("add 65536 like @1\n"),
-        line: "change: line 1: TooManyProviders\n",
-        status: 3,
-        ..TOKENS
-    },
-];
-
-#[test]
-fn an_answer_behind_changes(rt: HostRuntime) {
-    check_all(&rt, &CHANGED, SOUND);
-}
-
 static SUMS_AND_NONE: [Case; 6] = [
     Case {
         command: Command::Explain,
