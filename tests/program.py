@@ -30,6 +30,7 @@ from examples import examples
 from export import exports
 from faults import drawn_queries, drawn_tables
 from flavor_queries import flavor_queries
+from forms import FORMS_BY_HAND, in_forms
 from hostile import hostile
 from large import LARGE, MOST_PROVIDERS, QUERY_BYTES, roots, vcpu
 from log_lines import FOUND, REFUSED
@@ -178,7 +179,7 @@ WORDS = [
     refused('--zone without a value', over(['audit', '--zone']), '--zone <UUID>'),
     refused('--zone twice', over(['audit', '--zone', ONE_HOST.strip(), '--zone', ONE_HOST.strip()]), "'--zone <UUID>' cannot be used multiple times", 'Usage: ac_cli audit'),
     refused('--zone and tables that are not there', ['audit', '--zone', 'az1', '--tables', NO_FILE], "'--zone <UUID>'"),
-    refused('no tables for an audit', ['audit'], '--providers <FILE>\n  --inventories <FILE>', 'Usage: ac_cli audit', '--tables <DIR>'),
+    refused('no tables for an audit', ['audit'], 'provided:\n  --tables <DIR>\n\nUsage: ac_cli audit'),
     *(refused(f'{words[0]} for an audit', over(['audit', *words]), f"unexpected argument '{words[0]}' found", 'Usage: ac_cli audit')
       for words in (['--in', ONE_HOST.strip()], ['--tries', '9'], ['--microversion', '1.36'], ['--sum'], ['--prometheus'], ['--after', ONE_HOST.strip()])),
     *(refused(f'--zone for {name}', over([name, *words, '--zone', ONE_HOST.strip()]), "unexpected argument '--zone' found") for name, words in (
@@ -190,7 +191,7 @@ WORDS = [
     refused('no answer for compare', over(['compare', 'resources=VCPU:2']), '<ANSWER>', 'Usage: ac_cli compare'),
     refused('neither a query nor an answer for compare', over(['compare']), '<QUERY>', '<ANSWER>', 'Usage: ac_cli compare'),
     refused('two answers for compare', over(['compare', 'resources=VCPU:2', NO_FILE, NO_FILE]), f"unexpected argument '{NO_FILE}' found", 'Usage: ac_cli compare'),
-    refused('no tables for compare', ['compare', 'resources=VCPU:2', NO_FILE], '--providers <FILE>\n  --inventories <FILE>', 'Usage: ac_cli compare', '--tables <DIR>'),
+    refused('no tables for compare', ['compare', 'resources=VCPU:2', NO_FILE], 'provided:\n  --tables <DIR>\n\nUsage: ac_cli compare'),
     refused('--detail twice, for compare', over(['compare', '--detail', '--detail']), "'--detail' cannot be used multiple times"),
     refused('a later microversion for compare', over(['compare', 'resources=VCPU:2', NO_FILE, '--microversion', '1.40']), "invalid value '1.40'", 'Usage: ac_cli compare'),
     refused('-1 for --tries, for compare', over(['compare', 'resources=VCPU:2', NO_FILE, '--tries=-1']), "invalid value '-1' for '--tries <N>'", 'Usage: ac_cli compare'),
@@ -206,12 +207,12 @@ WORDS = [
     refused('--after for why', over(['why', 'resources=VCPU:2', ONE_HOST.strip(), '--after', ONE_HOST.strip()]), '--after'),
     refused('a query for a session', over(['session', 'resources=VCPU:2'])),
     refused('--after for a session', over(['session', '--after', ONE_HOST.strip()]), '--after'),
-    refused('no tables for a session', ['session'], '--providers <FILE>\n  --inventories <FILE>', 'Usage: ac_cli session', '--tables <DIR>'),
+    refused('no tables for a session', ['session'], 'provided:\n  --tables <DIR>\n\nUsage: ac_cli session'),
     refused('a later microversion for a session', over(['session', '--microversion', '1.40']), "invalid value '1.40'", 'Usage: ac_cli session'),
     refused('--after without a token', tokens('resources=VCPU:2') + ['--after']),
     refused('no inventories', ['tokens', 'resources=VCPU:2', '--providers', PROVIDERS], '--inventories <FILE>', 'Usage: ac_cli tokens'),
     refused('no providers', ['check', '--inventories', INVENTORIES], '--providers <FILE>', 'Usage: ac_cli check'),
-    refused('no tables', ['explain', 'resources=VCPU:2'], '--providers <FILE>\n  --inventories <FILE>', 'Usage: ac_cli explain', '--tables <DIR>'),
+    refused('no tables', ['explain', 'resources=VCPU:2'], 'provided:\n  --tables <DIR>\n\nUsage: ac_cli explain'),
     refused('--tables without a folder', ['check', '--tables'], '--tables <DIR>'),
     refused('two folders', ['check', '--tables', CLOUD, '--tables', CLOUD], '--tables <DIR>'),
     *(refused(f'a folder beside the table of {name}', ['check', '--tables', CLOUD, f'--{name}', os.path.join(CLOUD, name + '.csv')],
@@ -471,6 +472,9 @@ GROWTHS = [
     growing('explain, no candidate', ['explain', FIVES], ONE),
     growing('hosts', ['hosts', DISK], SHARED),
     growing('hosts, no candidate', ['hosts', FIVES], ONE),
+    growing('hosts as JSON, no candidate', ['hosts', FIVES, '-f', 'json'], ONE),
+    growing('list, as a table', ['list', DISK, '-f', 'table'], SHARED),
+    growing('why as JSON, an unknown host', ['why', TWO, 'P7', '-f', 'json', '--detail'], ONE),
     growing('capacity', ['capacity'], SHARED, flavors=full(f'flavor,query,wanted\none,"{DISK}",2\nnone,"{DISK}&root_required=CUSTOM_A",\n')),
     growing('capacity, as metrics', ['capacity', '--prometheus'], SHARED, flavors=full(f'flavor,query,wanted\n"one, ""1""\n",{TWO},2\nnone,"{DISK}&root_required=CUSTOM_A",\n')),
     growing('audit', ['audit', '--zone', 'A3'], PLANTED),
@@ -702,7 +706,7 @@ def main(*given):
         pages += [*releases(lines('P1')), *shown('README.md', launcher=os.path.join(clone(), 'ac_cli'))]
     chance = [*drawn(150), *drawn_audits(300), *drawn_tables(200), *drawn_queries(200)]
     linked = STATIC if os.path.isfile(os.path.join(ROOT, 'out', 'ac_cli.o')) and 'AC_CLI' not in os.environ else []
-    cases = [PAGES, CRATES, DRAWING, *linked, *HELP, *WORDS, *FILES, *FOLDERS, *DRIVER, *REPORT, *DETAILS, *second_lines(), *PASTED, *DEVICES, *GROWTHS, *AS_METRICS, KNOWN, *REFUSALS, *SMALL, *pages, remade('examples/private/README.md'),
+    cases = [PAGES, CRATES, DRAWING, *linked, *HELP, *WORDS, *FILES, *FOLDERS, *DRIVER, *REPORT, *DETAILS, *second_lines(), *PASTED, *DEVICES, *GROWTHS, *AS_METRICS, *FORMS_BY_HAND, *in_forms([*SMALL, *chance]), KNOWN, *REFUSALS, *SMALL, *pages, remade('examples/private/README.md'),
              *rules, *examples(), *concerned(), *exports(), *database_exports(), *flavor_queries(), *sessions(PROGRAM), *compares(PROGRAM), *queries(), *changes(), *chance, *LARGE, *hostile(PROGRAM), *cliffs(PROGRAM), *tries(PROGRAM), FEW_BYTES, *cuts()]
     cases = [case for case in cases if all(word in case.name for word in words)]
     failed = 0

@@ -1,5 +1,5 @@
 -- Over words and files in memory the program leaves the answer to what they ask.
-use Rattle.std.proofs.Common.{◌≡◌, ◌∙◌, ℕ, zero, suc, ◌≤◌, ◌<◌, true, false, List, [], ◌∷◌, ◌++◌, Option, Some, None, length, ◌⊎◌, inl, inr, if◌then◌else◌, refl, sym, ap, subst, arith, append-nil, append_assoc}
+use Rattle.std.proofs.Common.{◌≡◌, ◌∙◌, ℕ, zero, suc, ◌≤◌, ◌<◌, true, false, List, [], ◌∷◌, ◌++◌, Option, Some, None, length, ◌⊎◌, inl, inr, refl, sym, ap, subst, arith, append-nil, append_assoc}
 use Rattle.std.proofs.lemmas.Bool.{cases_Bool}
 use Rattle.std.proofs.lemmas.Bool.Decides.{nat_tests}
 use Rattle.std.specs.Io.KnownBytes.{Appends, Keeps, append_known}
@@ -21,7 +21,10 @@ use Rattle.ac_tables.specs.declared.read.FiveTables.{FiveTables}
 use Rattle.clap.specs.declared.error.kind.ErrorKind.{ErrorKind}
 use Rattle.clap.specs.Words.{IsAmong, Kinds, Text}
 use Rattle.ac_tables.specs.FiveTables.{table_in}
+use Rattle.ac_words.specs.declared.form.Form.{Form}
 use Rattle.ac_words.specs.Words.{IsMadeOf, Line, Says, faults, file_called, is_tabled, named, task_in}
+use Rattle.ac_cli.proofs.RanForms.{still}
+use Rattle.ac_cli.specs.Forms.{formed}
 use Rattle.ac_cli.specs.Files.{AreOpened, ExplainsUnread, HoldsChanges, HoldsFile, IsOpened}
 use Rattle.ac_cli.specs.InMemory.{AsksOver, Files, HoldsOver, SaysOver, held_by, HasFile, HasFiles, HasOwn, HasTables, bytes_at, file_bytes, left_by, needs}
 use Rattle.ac_cli.specs.Program.{HeldSession, Unread, EndsForLine, EndsForWords, EndsGiven, EndsLine, EndsProgram, IsToldUnread, Ran, RanCall, RanHeaders, RanJob, Streams, detail_in, note_behind, path_beside}
@@ -54,10 +57,6 @@ then_more None between new first later a b = tt
 then_more (Some xs) None new first later a b = absurd a
 then_more (Some xs) (Some ys) None first later a b = b
 then_more (Some xs) (Some ys) (Some zs) first later a b = b ∙ ap (λ l. l ++ later) a ∙ append_assoc xs first later
-
--- a count that stays at nothing doesn't rise
-still : (m n : ℕ) → m ≡ 0 → n ≡ 0 → Rises m n → ⊥
-still m n first last rose = let more : m < n = rose (omega (arith, first)) in omega (arith, more, first, last)
 
 module _ {R : Type 0} (remaining : R → Option (List ℕ)) (said : Bytes → Outcome) (may : Bytes → Type 0) (Unread : Table → Type 0) (from : FiveTables R) (s : Streams) (given : ℕ)
     (b : Bytes) (tell : TellBytes remaining from b) (read : (t : Table) → Unread t → ⊥) (out_whole : Rises s.out_before s.out_after → ⊥) (err_whole : Rises s.err_before s.err_after → ⊥)
@@ -97,12 +96,12 @@ same_note : (given : ℕ) (said note : List ℕ) → (given ≤ 1 → said ≡ n
 same_note given said note same = elim (cases_Bool (nat_le given 1)) [ inl small ↦ rw small (same (grind (arith, nat_tests, small))) | inr great ↦ rw great refl ]
 
 -- a job leaves its answer, and its note behind it
-pub job_left : {R : Type 0} (remaining : R → Option (List ℕ)) (failures : R → ℕ) (task : Task) (from to : FiveTables R) (s : Streams) (given : ℕ) (b : Bytes)
+pub job_left : {R : Type 0} (remaining : R → Option (List ℕ)) (failures : R → ℕ) (form : Form) (task : Task) (from to : FiveTables R) (s : Streams) (given : ℕ) (b : Bytes)
     → TellBytes remaining from b → ((t : Table) → FeedRose failures from to t → ⊥) → s.out_before ≡ 0 → s.out_after ≡ 0 → s.err_before ≡ 0 → s.err_after ≡ 0 → given ≤ 6
-    → RanJob remaining failures task from to s given → IsAnswered (left_by task b) s.out_old s.out_new s.err_old s.err_new given
-job_left remaining failures task from to s given b tell read out_before out_after err_before err_after few job =
+    → RanJob remaining failures form task from to s given → IsAnswered (left_by form task b) s.out_old s.out_new s.err_old s.err_new given
+job_left remaining failures form task from to s given b tell read out_before out_after err_before err_after few job =
     let none : job.count ≡ 0 = omega (arith, job.later, err_after) in
-    let done = is_done remaining (answer task) _ _ from (record s { err_new = job.err; err_after = job.count }) given b tell (λ t unread. read t unread.rises)
+    let done = is_done remaining (λ b. formed form (answer task b)) _ _ from (record s { err_new = job.err; err_after = job.count }) given b tell (λ t unread. read t unread.rises)
     (still s.out_before s.out_after out_before out_after) (still s.err_before job.count err_before none) few job.ran in
     let note = job.note.whole (still job.count s.err_after none err_after) in
     let same = same_note given job.said (noted task b) (λ small. job.tied small b tell) in
@@ -123,9 +122,10 @@ one_line name rows l m h k =
     ap (λ x. record l { call = x }) (some_same (sym h.call ∙ k.call))
     ∙ ap (λ x. record l { call = m.call; version = x }) (some_same (sym h.version ∙ k.version))
     ∙ ap (λ x. record l { call = m.call; version = m.version; tries = x }) (some_same (sym h.tries ∙ k.tries))
-    ∙ ap (λ x. record l { call = m.call; version = m.version; tries = m.tries; changes = x }) (sym h.changes ∙ k.changes)
-    ∙ ap (λ x. record l { call = m.call; version = m.version; tries = m.tries; changes = m.changes; detail = x }) (sym h.detail ∙ k.detail)
-    ∙ ap (λ x. record l { call = m.call; version = m.version; tries = m.tries; changes = m.changes; detail = m.detail; paths = x }) (some_same (sym h.paths ∙ k.paths))
+    ∙ ap (λ x. record l { call = m.call; version = m.version; tries = m.tries; form = x }) (some_same (sym h.form ∙ k.form))
+    ∙ ap (λ x. record l { call = m.call; version = m.version; tries = m.tries; form = m.form; changes = x }) (sym h.changes ∙ k.changes)
+    ∙ ap (λ x. record l { call = m.call; version = m.version; tries = m.tries; form = m.form; changes = m.changes; detail = x }) (sym h.detail ∙ k.detail)
+    ∙ ap (λ x. record m { paths = x }) (some_same (sym h.paths ∙ k.paths))
 
 pub same_said : (found : _) (l m : Line) → Says found l → Says found m → l ≡ m
 same_said None l m h k = absurd h
@@ -371,11 +371,12 @@ module _ (questions : MemFile) (words : List Text) (files : Files) (s : Streams)
   EndsSo line = EndsLine (RanHeaders told never told never questions line s given) (EndsForLine (Opens files) (Refuses files) told never told never questions line s given) line
 
   -- where they ask for a task: its answer
-  pub task_left : {gives : List Text → Type 0} {Sample : Type 0} → ((given : List Text) → gives given → given ≡ words) → (task : Task) → AsksOver words files task b
-      → EndsProgram gives ⊥ Sample EndsSo s given → IsAnswered (left_by task b) s.out_old s.out_new s.err_old s.err_new given
-  task_left same task asks =
+  pub task_left : {gives : List Text → Type 0} {Sample : Type 0} → ((given : List Text) → gives given → given ≡ words) → (form : Form) (task : Task)
+      → AsksOver words files form task b → EndsProgram gives ⊥ Sample EndsSo s given → IsAnswered (left_by form task b) s.out_old s.out_new s.err_old s.err_new given
+  task_left same form task asks =
       program_left questions words files s given few b asks.over _ (Some task) asks.asks
-      (λ from to tell ran. job_left told never task from to s given b tell (no_rise from to) out_before out_after err_before err_after few ran) same
+      (λ from to tell ran. job_left told never form task from to s given b tell (no_rise from to) out_before out_after err_before err_after few
+      (subst (λ (f : Form). RanJob told never f task from to s given) asks.formed ran)) same
 
   -- where they ask for a session: its answers
   pub session_held : {gives : List Text → Type 0} {Sample : Type 0} → ((given : List Text) → gives given → given ≡ words) → (holds : HoldsOver words files b)

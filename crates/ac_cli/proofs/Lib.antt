@@ -1,2 +1,6 @@
-pub mod RanTasks
+pub mod Drawn
+pub mod FormsHold
 pub mod InMemory
+pub mod RanForms
+pub mod RanTasks
+pub mod RowsJson

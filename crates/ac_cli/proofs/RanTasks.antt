@@ -8,6 +8,8 @@ use Rattle.ac_query.specs.declared.version.Version.{Version}
 use Rattle.ac_tables.specs.declared.fault.Table.{Table}
 use Rattle.ac_tables.specs.declared.read.FiveTables.{FiveTables}
 use Rattle.ac_session.proofs.Stood.{first_none}
+use Rattle.ac_words.specs.declared.form.Form.{Form}
+use Rattle.ac_words.specs.declared.form.Form.TheVariants.{Csv}
 use Rattle.ac_words.specs.Words.{Line, task_in}
 use Rattle.ac_cli.specs.Program.{HeldSession, IsLine, Ran, RanCall, RanJob, RanSession, RanTask, Stops, Streams, detail_in}
 
@@ -50,8 +52,9 @@ module _ {R Q : Type 0} (remaining : R → Option (List ℕ)) (failures : R → 
   abbrev Called : Option Task → Type 0
   Called task = RanCall remaining failures asked fails task line changes from to questions s given
 
-  pub ran_call : (task : Task) → Some task ≡ task_in line file changes (detail_in line) → RanJob remaining failures task from to s given → Called (task_in line file changes (detail_in line))
-  ran_call task is ran = subst Called is ran
+  pub ran_call : (form : Form) → form ≡ line.form → (task : Task) → Some task ≡ task_in line file changes (detail_in line) → RanJob remaining failures form task from to s given
+      → Called (task_in line file changes (detail_in line))
+  ran_call form same task is ran = subst Called is (subst (λ (f : Form). RanJob remaining failures f task from to s given) same ran)
 
   pub held_call : (detail : Option Paths) (version : Version) (tries : Option ℕ) → None ≡ task_in line file changes (detail_in line) → detail ≡ detail_in line → version ≡ line.version → tries ≡ line.tries
       → HeldSession remaining failures asked fails detail changes version tries from to questions s given → Called (task_in line file changes (detail_in line))
@@ -63,5 +66,5 @@ module _ {R Q : Type 0} (remaining : R → Option (List ℕ)) (failures : R → 
 
 -- what is said of a run is said of its task by another name
 pub of_task : {R : Type 0} (remaining : R → Option (List ℕ)) (failures : R → ℕ) (from to : FiveTables R) (s : Streams) (given : ℕ) (task other : Task) → task ≡ other
-    → RanTask remaining failures task from to s given → RanTask remaining failures other from to s given
-of_task remaining failures from to s given task other is ran = subst (λ (t : Task). RanTask remaining failures t from to s given) is ran
+    → RanTask remaining failures Csv task from to s given → RanTask remaining failures Csv other from to s given
+of_task remaining failures from to s given task other is ran = subst (λ (t : Task). RanTask remaining failures Csv t from to s given) is ran

@@ -11,6 +11,9 @@ use Rattle.ac_query.specs.declared.version.Version.TheVariants.{V136}
 use Rattle.ac_run.specs.Tasks.{Paths, Task, check}
 use Rattle.ac_session.specs.Sessions.{session_answer}
 use Rattle.ac_words.specs.Words.{Line, Says, faults, file_called, is_tabled, named, paths_in, task_in}
+use Rattle.ac_words.specs.declared.form.Form.{Form}
+use Rattle.ac_words.specs.declared.form.Form.TheVariants.{Csv}
+use Rattle.ac_cli.specs.Forms.{formed}
 use Rattle.ac_cli.specs.Program.{detail_in, header_bytes, note_behind}
 use Rattle.ac_cli.specs.declared.memory.Left.{Left}
 use Rattle.ac_cli.specs.declared.memory.MemFile.{MemFile}
@@ -68,9 +71,10 @@ pub record SaysOver (words : List Text) (files : Files) (b : Bytes) : Type 0 whe
   pub changes : Option (List ℕ)
   pub there : needs (is_tabled line.call) (HasFiles files line b file changes) b file changes
 
--- They ask for this task.
-pub record AsksOver (words : List Text) (files : Files) (task : Task) (b : Bytes) : Type 0 where
+-- They ask for this task, its rows in this form.
+pub record AsksOver (words : List Text) (files : Files) (form : Form) (task : Task) (b : Bytes) : Type 0 where
   pub over : SaysOver words files b
+  pub formed : over.line.form ≡ form
   pub asks : task_in over.line over.file over.changes (detail_in over.line) ≡ Some task
 
 -- They ask for a session, whose searches have no bound.
@@ -88,13 +92,13 @@ sizes_task = record { command = check; query = []; version = V136; tries = None;
 
 -- There are words that ask: these, where the tables of the folder are there.
 abbrev pub WordsAsk : Type 0
-WordsAsk = (files : Files) (b : Bytes) → HasTables files (paths_in (codes "cloud")) b → AsksOver asks_sizes files sizes_task b
+WordsAsk = (files : Files) (b : Bytes) → HasTables files (paths_in (codes "cloud")) b → AsksOver asks_sizes files Csv sizes_task b
 
 -- ---- what is left
 
--- the answer to a task, and behind its line what is told then
-abbrev pub left_by : Task → Bytes → Outcome
-left_by task b = record (answer task b) { line = (answer task b).line ++ note_behind (answer task b).status (noted task b) }
+-- the answer to a task, its rows in a form, and behind its line what is told then
+abbrev pub left_by : Form → Task → Bytes → Outcome
+left_by form task b = record (formed form (answer task b)) { line = (answer task b).line ++ note_behind (answer task b).status (noted task b) }
 
 -- the answers of a session to these lines
 abbrev pub held_by : {words : List Text} {files : Files} {b : Bytes} → HoldsOver words files b → List ℕ → Outcome

@@ -1,3 +1,5 @@
 pub mod Files
+pub mod Forms
 pub mod InMemory
+pub mod Laws
 pub mod Program

@@ -27,12 +27,15 @@ use Rattle.ac_session.specs.Sessions.{AreUnread, session_answer, session_answer_
 use Rattle.ac_session.specs.Tries.{AreStops}
 use Rattle.ac_session.specs.Turns.{lines_in}
 use Rattle.ac_tables.specs.declared.read.FiveTables.{FiveTables}
+use Rattle.ac_cli.specs.Forms.{formed}
 use Rattle.ac_cli.specs.Files.{AreOpened, ExplainsUnread, HoldsChanges, HoldsFile}
 use Rattle.ac_cli.specs.declared.files.Beside.{Beside}
 use Rattle.ac_cli.specs.declared.files.Beside.TheVariants as beside
 use Rattle.ac_cli.specs.declared.files.FileUnread.{FileUnread}
 use Rattle.ac_cli.specs.declared.files.FileUnread.TheVariants as unread
 use Rattle.ac_words.specs.Words.{Call, Line, Says, calls_answer, faults, file_called, is_tabled, named, task_in}
+use Rattle.ac_words.specs.declared.form.Form.{Form}
+use Rattle.ac_words.specs.declared.form.Form.TheVariants.{Csv}
 use Rattle.ac_words.specs.declared.name.Name.{Name}
 use Rattle.ac_tables.specs.FiveTables.{table_in}
 
@@ -94,9 +97,10 @@ pub record Ran {R : Type 0} (remaining : R → Option (List ℕ)) (said : Bytes 
 abbrev pub Unread : {R : Type 0} → (R → ℕ) → Option Paths → FiveTables R → FiveTables R → Streams → Table → Type 0
 Unread failures detail from to s t = IsUnread (FeedRose failures from to t) detail t s.err_old s.err_new s.err_before s.err_after
 
--- a task was run over feeds that were these before and after
-abbrev pub RanTask : {R : Type 0} → (R → Option (List ℕ)) → (R → ℕ) → Task → FiveTables R → FiveTables R → Streams → ℕ → Type 0
-RanTask remaining failures task from to s given = Ran remaining (answer task) (TaskMayStop task) (Unread failures task.detail from to s) from s given
+-- a task was run over feeds that were these before and after, its rows in a form
+abbrev pub RanTask : {R : Type 0} → (R → Option (List ℕ)) → (R → ℕ) → Form → Task → FiveTables R → FiveTables R → Streams → ℕ → Type 0
+RanTask remaining failures form task from to s given =
+    Ran remaining (λ b. formed form (answer task b)) (TaskMayStop task) (Unread failures task.detail from to s) from s given
 
 -- what is told behind an answer: the note of its run, if that wrote it
 abbrev pub note_behind : ℕ → List ℕ → List ℕ
@@ -104,11 +108,11 @@ note_behind given note = if nat_le given 1 then note else []
 
 -- A task was run over feeds that were these before and after, and then a note was told. In between the error stream had failed no more often than in the end,
 -- and no less often than at first, so a line that is missing failed to be written. Over bytes the note of the run is theirs.
-pub record RanJob {R : Type 0} (remaining : R → Option (List ℕ)) (failures : R → ℕ) (task : Task) (from to : FiveTables R) (s : Streams) (given : ℕ) : Type 0 where
+pub record RanJob {R : Type 0} (remaining : R → Option (List ℕ)) (failures : R → ℕ) (form : Form) (task : Task) (from to : FiveTables R) (s : Streams) (given : ℕ) : Type 0 where
   pub err : Option (List ℕ)
   pub count : ℕ
   pub later : count ≤ s.err_after
-  pub ran : RanTask remaining failures task from to (record s { err_new = err; err_after = count }) given
+  pub ran : RanTask remaining failures form task from to (record s { err_new = err; err_after = count }) given
   pub said : List ℕ
   pub tied : given ≤ 1 → (b : Bytes) → TellBytes remaining from b → said ≡ noted task b
   pub note : TakesLine err s.err_new count s.err_after (note_behind given said)
@@ -161,7 +165,7 @@ detail_in line = if line.detail then Some line.paths else None
 -- what a line calls for was done over feeds of tables that were these before and after: a task was run, or a session was held
 abbrev pub RanCall : {R Q : Type 0} → (R → Option (List ℕ)) → (R → ℕ) → (Q → Option (List ℕ)) → (Q → ℕ)
     → Option Task → Line → Option (List ℕ) → FiveTables R → FiveTables R → Q → Streams → ℕ → Type 0
-RanCall remaining failures asked fails (Some task) line changes from to questions s given = RanJob remaining failures task from to s given
+RanCall remaining failures asked fails (Some task) line changes from to questions s given = RanJob remaining failures line.form task from to s given
 RanCall remaining failures asked fails None line changes from to questions s given =
     HeldSession remaining failures asked fails (detail_in line) changes line.version line.tries from to questions s given
 
@@ -274,17 +278,17 @@ EndsLine Headers Opened line = Headers ⊎ ((is_tabled line.call ≡ true) × Op
 
 -- ---- all words
 
--- a text was written whole and nothing told; or the output failed, which is told
-abbrev pub IsShown : List ℕ → Streams → ℕ → Type 0
-IsShown text s given =
-    ((given ≡ 0) × Appends s.out_old s.out_new text × (s.err_new ≡ s.err_old))
+-- a text was written whole with this status, and nothing told; or the output failed, which is told
+abbrev pub IsShown : ℕ → List ℕ → Streams → ℕ → Type 0
+IsShown wanted text s given =
+    ((given ≡ wanted) × Appends s.out_old s.out_new text × (s.err_new ≡ s.err_old))
     ⊎ ((given ≡ 6) × Rises s.out_before s.out_after × TakesPart s.out_old s.out_new text × IsLine s output_line)
 
 -- The words ask for help or for the version, and a text was shown.
 pub record IsHelped (kinds : Kinds) (s : Streams) (given : ℕ) : Type 0 where
   pub asked : IsAmong DisplayHelp kinds ⊎ IsAmong DisplayVersion kinds
   pub text : List ℕ
-  pub shown : IsShown text s given
+  pub shown : IsShown 0 text s given
 
 -- The words have a fault that is no call for help or for the version, and a text was told.
 pub record IsMisworded (kinds : Kinds) (s : Streams) (given : ℕ) : Type 0 where
@@ -326,7 +330,7 @@ pub record RanSample {R : Type 0} (remaining : R → Option (List ℕ)) (failure
   pub from : FiveTables R
   pub to : FiveTables R
   pub tells : TellBytes remaining from sample_bytes
-  pub ran : RanTask remaining failures sample_task from to s given
+  pub ran : RanTask remaining failures Csv sample_task from to s given
 
 -- what is told where the words are no text
 abbrev pub no_text_line : List ℕ

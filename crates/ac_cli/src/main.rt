@@ -2,7 +2,9 @@
 #![tactic(auto)]
 
 mod files;
+mod forms;
 mod host;
+pub mod laws;
 pub mod memory;
 mod program;
 mod sample;

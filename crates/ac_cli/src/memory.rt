@@ -1,11 +1,12 @@
 //! The whole program over words and files in memory: what it leaves is known, byte for byte.
-ghost use Rattle.std.specs.Prelude.{◌≡◌, ◌<◌, Err, IfOk, IfSome, None, Some, [], find, length, map, option_map, string_bytes};
+ghost use Rattle.std.specs.Prelude.{◌≡◌, ◌<◌, Err, IfOk, IfSome, None, Some, [], find, nat_lt, length, map, option_map, string_bytes};
 ghost use Rattle.std.specs.Str.{bytes_eq};
 ghost use Rattle.ac_base.specs.Devices.{PullGives, PushTakes, breaks_after_pull, breaks_after_push, failures_after_pull, failures_after_push};
 ghost use Rattle.ac_run.specs.Feeds.{Bytes};
 ghost use Rattle.ac_run.specs.Tasks.{Task};
 ghost use Rattle.ac_cli.specs.InMemory.{AsksOver, HoldsOver, IsLeft, WordsAsk, bytes_at, file_bytes, files_shown, held_by, left_by, words_shown};
 ghost use Rattle.ac_session.specs.Lines.{most_passed};
+ghost use Rattle.ac_words.specs.declared.form.Form.{Form};
 ghost use Rattle.ac_cli.specs.declared.host.Unworded.TheVariants as Unworded;
 
 use crate::host::{Host, Unworded};
@@ -67,6 +68,20 @@ impl Written {
             bytes: Vec::new(alloc),
             failures: 0,
         }
+    }
+
+    /// What is written.
+    pub fn bytes(&self) -> &[u8]
+        ensures { result.now ≡ written_bytes self.now }
+    {
+        &self.bytes
+    }
+
+    /// Whether a growth was refused.
+    pub fn has_failed(&self) -> bool
+        ensures { result ≡ nat_lt 0 (written_failures self.now) }
+    {
+        self.failures > 0
     }
 }
 
@@ -175,9 +190,9 @@ pub fn answer_in_memory(
     files: &[(&str, &[u8])],
     questions: &[u8],
 ) -> Option<Left>
-    ensures task { IfSome result (λ left. (task : Task) (b : Bytes)
-        → AsksOver (words_shown words.now) (files_shown files.now) task b
-        → IsLeft (left_by task b) left) }
+    ensures task { IfSome result (λ left. (form : Form) (task : Task) (b : Bytes)
+        → AsksOver (words_shown words.now) (files_shown files.now) form task b
+        → IsLeft (left_by form task b) left) }
     ensures session { length questions.now < most_passed → IfSome result (λ left. (b : Bytes)
         (holds : HoldsOver (words_shown words.now) (files_shown files.now) b)
         → IsLeft (held_by holds questions.now) left) }

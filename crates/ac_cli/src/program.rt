@@ -9,14 +9,16 @@ ghost use Rattle.ac_run.specs.Notes.{noted};
 ghost use Rattle.ac_run.specs.Tasks.{changes_shown, command_shown, detail_shown, paths_shown, task_of};
 ghost use Rattle.ac_cli.specs.Program.{beside_called, EndsForLine, EndsForWords, EndsLine, EndsProgram, HeldSession, IsShown, IsToldUnopened, IsToldUnread, RanCall, RanHeaders, RanJob, RanSample, RanTask, detail_in, file_status, large_said, note_behind, seen, unread_said, unread_told};
 ghost use Rattle.ac_run.specs.Refusals.{line_of, status_of};
+ghost use Rattle.ac_words.specs.declared.form.Form.TheVariants.{Csv};
 ghost use Rattle.ac_cli.specs.Files.{ExplainsUnread, HoldsChanges, HoldsFile};
 ghost use Rattle.ac_words.specs.Words.{file_called, is_tabled, task_in};
 
 use crate::files::{Beside, FileUnread, Unopened, opened_inputs, read_file};
+use crate::forms::in_form;
 use crate::host::{Host, Unworded};
-use crate::memory::MemFile;
+use crate::memory::{MemFile, Written};
 use crate::sample;
-use ac_base::{Feed, Gathering, Sink, push_all};
+use ac_base::{Feed, Gathering, NoMemory, Sink, push_all};
 use ac_query::Version;
 use ac_remedies::unread_remedy;
 use ac_run::{
@@ -24,7 +26,7 @@ use ac_run::{
     Refusal, Refused, TablesRefusal, run, tell,
 };
 use ac_session::{Lines, run_session};
-use ac_words::{WordFault, Words, read_words};
+use ac_words::{Form, WordFault, Words, read_words};
 use std::alloc::Global;
 
 // How many bytes of output are gathered before they are handed on.
@@ -40,9 +42,27 @@ fn tell_text<E: Sink>(err: &mut E, text: &[u8])
     let _ = push_all(err, text);
 }
 
+// Writes a text, and ends with this status.
+fn show<W: Sink + Drop, E: Sink>(
+    alloc: Global,
+    text: &[u8],
+    status: u8,
+    mut out: W,
+    err: &mut E,
+) -> (u8, W)
+    ensures shown { IsShown status text.now (seen W.taken W.failures E.taken E.failures out
+        result.1 err.old err.new) result.0 }
+    ensures failures { E.failures err.old ≤ E.failures err.new }
+{
+    match push_all(&mut out, text) {
+        Ok(()) => (status, out),
+        Err(_) => (tell(err, &Refused::of(alloc, Refusal::Output)), out),
+    }
+}
+
 // Runs a job, and gathers its output: it is handed on in pieces of 65536 bytes, and at the end. Gives the status, and the output sink. Of an answer that
 // ends with 6 or 7 the last piece isn't handed on; where a search stopped, it is, as far as the sink takes it. In `note` stands what is to be told behind it.
-fn ran<F: Feed, W: Sink + Drop, E: Sink>(
+fn ran_gathered<F: Feed, W: Sink + Drop, E: Sink>(
     alloc: Global,
     job: &Job<'_>,
     inputs: &mut Inputs<F>,
@@ -50,7 +70,7 @@ fn ran<F: Feed, W: Sink + Drop, E: Sink>(
     err: &mut E,
     note: &mut Vec<u8>,
 ) -> (u8, W)
-    ensures ran { RanTask F.remaining F.failures (task_of job.now) inputs.old inputs.new
+    ensures ran { RanTask F.remaining F.failures Csv (task_of job.now) inputs.old inputs.new
         (seen W.taken W.failures E.taken E.failures out result.1 err.old err.new) result.0 }
     ensures note { result.0 ≤ 1 → (b : Bytes) → TellBytes F.remaining inputs.old b
         → note.new.items ≡ noted (task_of job.now) b }
@@ -73,6 +93,58 @@ fn ran<F: Feed, W: Sink + Drop, E: Sink>(
     }
 }
 
+// Runs a job in memory, and then writes its rows in a form: its status, and the output sink. What is refused, or stopped by its tries, writes nothing.
+fn ran_formed<F: Feed, W: Sink + Drop, E: Sink>(
+    alloc: Global,
+    form: Form,
+    job: &Job<'_>,
+    inputs: &mut Inputs<F>,
+    out: W,
+    err: &mut E,
+    note: &mut Vec<u8>,
+) -> (u8, W)
+    ensures ran { RanTask F.remaining F.failures form (task_of job.now) inputs.old inputs.new
+        (seen W.taken W.failures E.taken E.failures out result.1 err.old err.new) result.0 }
+    ensures note { result.0 ≤ 1 → (b : Bytes) → TellBytes F.remaining inputs.old b
+        → note.new.items ≡ noted (task_of job.now) b }
+{
+    let mut plain = Written::new(alloc);
+    let mut told = Written::new(alloc);
+    let status = run(alloc, job, inputs, &mut plain, &mut told, note);
+    if plain.has_failed() || told.has_failed() {
+        return (tell(err, &Refused::of(alloc, Refusal::NoMemory)), out);
+    }
+    if status > 1 {
+        tell_text(err, told.bytes());
+        return (status, out);
+    }
+    match in_form(alloc, form, plain.bytes()) {
+        Ok(text) => show(alloc, &text, status, out, err),
+        Err(NoMemory) => (tell(err, &Refused::of(alloc, Refusal::NoMemory)), out),
+    }
+}
+
+// Runs a job, its rows in a form: its status, and the output sink.
+fn ran<F: Feed, W: Sink + Drop, E: Sink>(
+    alloc: Global,
+    form: Form,
+    job: &Job<'_>,
+    inputs: &mut Inputs<F>,
+    out: W,
+    err: &mut E,
+    note: &mut Vec<u8>,
+) -> (u8, W)
+    ensures ran { RanTask F.remaining F.failures form (task_of job.now) inputs.old inputs.new
+        (seen W.taken W.failures E.taken E.failures out result.1 err.old err.new) result.0 }
+    ensures note { result.0 ≤ 1 → (b : Bytes) → TellBytes F.remaining inputs.old b
+        → note.new.items ≡ noted (task_of job.now) b }
+{
+    match form {
+        Form::Csv => ran_gathered(alloc, job, inputs, out, err, note),
+        Form::Table | Form::Json => ran_formed(alloc, form, job, inputs, out, err, note),
+    }
+}
+
 // What is told behind an answer, by the note of its run.
 fn note_behind(status: u8, note: &[u8]) -> &[u8]
     ensures { result.now ≡ note_behind status note.now }
@@ -80,19 +152,20 @@ fn note_behind(status: u8, note: &[u8]) -> &[u8]
     if status <= 1 { note } else { b"" }
 }
 
-// Runs a job, and then tells a note: its status, and the output sink.
+// Runs a job, its rows in a form, and then tells a note: its status, and the output sink.
 fn ran_job<F: Feed, W: Sink + Drop, E: Sink>(
     alloc: Global,
+    form: Form,
     job: &Job<'_>,
     inputs: &mut Inputs<F>,
     out: W,
     err: &mut E,
 ) -> (u8, W)
-    ensures { RanJob F.remaining F.failures (task_of job.now) inputs.old inputs.new
+    ensures { RanJob F.remaining F.failures form (task_of job.now) inputs.old inputs.new
         (seen W.taken W.failures E.taken E.failures out result.1 err.old err.new) result.0 }
 {
     let mut note = Vec::new(alloc);
-    let (status, out) = ran(alloc, job, inputs, out, err, &mut note);
+    let (status, out) = ran(alloc, form, job, inputs, out, err, &mut note);
     tell_text(err, note_behind(status, &note));
     (status, out)
 }
@@ -118,17 +191,6 @@ fn held<F: Feed, Q: Feed + Drop, W: Sink + Drop, E: Sink>(
             alloc, version, tries, detail, changes, inputs, &mut lines, out, err,
         ),
         Err(_) => (tell(err, &Refused::of(alloc, Refusal::NoMemory)), out),
-    }
-}
-
-// Writes a text that was asked for.
-fn show<W: Sink + Drop, E: Sink>(alloc: Global, text: &str, mut out: W, err: &mut E) -> (u8, W)
-    ensures { IsShown text.now (seen W.taken W.failures E.taken E.failures out result.1 err.old
-        err.new) result.0 }
-{
-    match push_all(&mut out, text.as_bytes()) {
-        Ok(()) => (0, out),
-        Err(_) => (tell(err, &Refused::of(alloc, Refusal::Output)), out),
     }
 }
 
@@ -298,7 +360,7 @@ fn answer_opened<F: Feed, Q: Feed + Drop, W: Sink + Drop, E: Sink>(
     let paths = words.paths();
     let detail = detail_of(words, &paths);
     match words.job(file, changes, detail) {
-        Some(job) => ran_job(alloc, &job, inputs, out, err),
+        Some(job) => ran_job(alloc, words.form(), &job, inputs, out, err),
         None => held(
             alloc,
             words.version(),
@@ -426,8 +488,8 @@ fn answer_words<H: Host + AllocGlobal, Q: Feed + Drop, W: Sink + Drop, E: Sink>(
     let alloc = host.alloc();
     match read_words(alloc, given) {
         Ok(words) => answer_line(host, &words, questions, out, err),
-        Err(WordFault::Help(text)) => show(alloc, text.as_str(), out, err),
-        Err(WordFault::Version(text)) => show(alloc, text.as_str(), out, err),
+        Err(WordFault::Help(text)) => show(alloc, text.as_bytes(), 0, out, err),
+        Err(WordFault::Version(text)) => show(alloc, text.as_bytes(), 0, out, err),
         Err(WordFault::Refused(text)) => {
             tell_text(err, text.as_bytes());
             (2, out)
@@ -443,7 +505,7 @@ fn answer_sample<W: Sink + Drop, E: Sink>(alloc: Global, out: W, err: &mut E) ->
         (seen W.taken W.failures E.taken E.failures out result.1 err.old err.new) result.0 }
 {
     let mut note = Vec::new(alloc);
-    ran(
+    ran_gathered(
         alloc,
         &sample::job(),
         &mut sample::inputs(),

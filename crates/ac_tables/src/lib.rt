@@ -20,5 +20,6 @@ pub use fault::{Table, TableFault, TableKind};
 pub use flavors::{Flavor, FlavorFault, read_flavors};
 pub use found::Found;
 pub use read::{FiveTables, FromTables, Sources};
+pub use reader::records::{next_row, open_rows, text_at};
 pub use table_bytes::{ReadFault, drain};
 pub use written::{usages_fit, usages_text};

@@ -21,6 +21,8 @@ use Rattle.ac_tables.specs.declared.fault.Table.TheVariants.{Providers, Inventor
 use Rattle.ac_tables.specs.declared.read.FiveTables.{FiveTables}
 use Rattle.ac_run.specs.Wanted.Mark.{past_mark}
 use Rattle.ac_words.specs.Names.{name_read}
+use Rattle.ac_words.specs.declared.form.Form.{Form}
+use Rattle.ac_words.specs.declared.form.Form.TheVariants as form
 use Rattle.ac_words.specs.declared.name.Name.{Name}
 use Rattle.ac_words.specs.declared.name.Name.TheVariants as name
 use Rattle.ac_words.specs.declared.words.Call as rust
@@ -78,6 +80,10 @@ with_options app = with_version (with_common app)
 abbrev pub with_tries : App → App
 with_tries app = with_rule (with_options app) (option_rule (codes "tries"))
 
+-- the form of a command that writes rows
+abbrev pub with_format : App → App
+with_format app = with_rule app (record (option_rule (codes "format")) { short = Some 102 })
+
 abbrev pub query_app : Text → App
 query_app name = with_rule (new_app name) (word_rule (codes "query"))
 
@@ -99,7 +105,7 @@ abbrev pub tokens_app : App
 tokens_app = search_app (codes "tokens")
 
 abbrev pub list_app : App
-list_app = shown_app (codes "list")
+list_app = with_format (shown_app (codes "list"))
 
 abbrev pub fill_app : App
 fill_app = with_rule (with_tries (query_app (codes "fill"))) (flag_rule (codes "sum"))
@@ -111,21 +117,21 @@ abbrev pub explain_app : App
 explain_app = with_tries (query_app (codes "explain"))
 
 abbrev pub hosts_app : App
-hosts_app = with_rule (with_rule (with_tries (query_app (codes "hosts"))) (option_rule (codes "in"))) (flag_rule (codes "sum"))
+hosts_app = with_format (with_rule (with_rule (with_tries (query_app (codes "hosts"))) (option_rule (codes "in"))) (flag_rule (codes "sum")))
 
 abbrev pub why_app : App
-why_app = with_tries (with_rule (query_app (codes "why")) (word_rule (codes "host")))
+why_app = with_format (with_tries (with_rule (query_app (codes "why")) (word_rule (codes "host"))))
 
 -- a command with a table of flavors
 abbrev pub capacity_app : App
-capacity_app = with_rule (with_tries (with_rule (new_app (codes "capacity")) (word_rule (codes "flavors")))) (flag_rule (codes "prometheus"))
+capacity_app = with_format (with_rule (with_tries (with_rule (new_app (codes "capacity")) (word_rule (codes "flavors")))) (flag_rule (codes "prometheus")))
 
 -- a query, with an answer of the service
 abbrev pub compare_app : App
 compare_app = with_tries (with_rule (query_app (codes "compare")) (word_rule (codes "answer")))
 
 abbrev pub audit_app : App
-audit_app = with_rule (with_common (new_app (codes "audit"))) (option_rule (codes "zone"))
+audit_app = with_format (with_rule (with_common (new_app (codes "audit"))) (option_rule (codes "zone")))
 
 -- how a query is read, which no table has to do with; without one, the parameters
 abbrev pub reading_app : App
@@ -239,6 +245,31 @@ aggregates_kinds rows = or_else (aggregate_kinds (aggregate_of (codes "in") rows
 abbrev pub option_kinds : List Row → Kinds
 option_kinds rows = or_else (tries_kinds (tries_of rows)) (aggregates_kinds rows)
 
+-- the form that a text names; without it, comma-separated values
+abbrev pub form_named : Option Text → Option Form
+form_named None = Some form.Csv
+form_named (Some text) =
+    if bytes_eq text (codes "csv") then Some form.Csv
+    else if bytes_eq text (codes "table") then Some form.Table
+    else if bytes_eq text (codes "json") then Some form.Json else None
+
+-- the form in which rows are written
+abbrev pub form_of : List Row → Option Form
+form_of rows = form_named (first_of (codes "format") rows)
+
+-- what names no form is a value that isn't valid
+abbrev pub named_kinds : Option Form → Kinds
+named_kinds None = InvalidValue ∷ []
+named_kinds (Some form) = []
+
+-- metrics are no rows: a form stands with none
+abbrev pub metrics_kinds : List Row → Kinds
+metrics_kinds rows = if is_some (first_of (codes "format") rows) && is_set (first_of (codes "prometheus") rows) then ArgumentConflict ∷ [] else []
+
+-- the fault of the form
+abbrev pub form_kinds : List Row → Kinds
+form_kinds rows = or_else (named_kinds (form_of rows)) (metrics_kinds rows)
+
 -- what the option of a table says
 abbrev pub option_of : List Row → Table → Option Text
 option_of rows table = first_of (table_name table) rows
@@ -269,12 +300,12 @@ has_tables _ = true
 abbrev pub needed_kinds : Name → List Row → Kinds
 needed_kinds name rows = if has_tables name then table_kinds rows else []
 
--- the fault of the version, the tries, the aggregates and the tables that are named with a command
+-- the fault of the version, the tries, the aggregates, the form and the tables that are named with a command
 abbrev pub own_faults : Option (Name × List Row) → Kinds
 own_faults None = []
-own_faults (Some p) = or_else (version_kinds (version_of p.1)) (or_else (option_kinds p.1) (needed_kinds p.0 p.1))
+own_faults (Some p) = or_else (version_kinds (version_of p.1)) (or_else (option_kinds p.1) (or_else (form_kinds p.1) (needed_kinds p.0 p.1)))
 
--- `clap` refuses them for want of memory alone, and their version, tries, aggregates and tables have no fault
+-- `clap` refuses them for want of memory alone, and their version, tries, aggregates, form and tables have no fault
 unfoldable pub is_taken : List Text → Bool
 is_taken words = takes program words && is_empty (own_faults (named words))
 
@@ -297,6 +328,7 @@ pub record Line : Type 0 where
   pub call : Call
   pub version : Version
   pub tries : Option ℕ
+  pub form : Form
   pub changes : Option Text
   pub detail : Bool
   pub paths : Paths
@@ -429,6 +461,7 @@ pub record IsMadeOf (name : Name) (rows : List Row) (line : Line) : Type 0 where
   pub call : call_of name rows ≡ Some line.call
   pub version : version_of rows ≡ Some line.version
   pub tries : tries_of rows ≡ Some line.tries
+  pub form : form_of rows ≡ Some line.form
   pub changes : first_of (codes "change") rows ≡ line.changes
   pub detail : detail_of rows ≡ line.detail
   pub paths : needed_paths name rows ≡ Some line.paths

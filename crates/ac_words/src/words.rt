@@ -11,6 +11,7 @@ mod grammar;
 mod help;
 mod tables;
 
+use crate::form::Form;
 use ac_query::Version;
 use ac_run::{Command, Job, Paths};
 use ac_tables::{FiveTables, Table};
@@ -37,6 +38,7 @@ pub struct Words<'a> {
     call: Call<'a>,
     version: Version,
     tries: Option<u64>,
+    form: Form,
     changes: Option<&'a str>,
     detail: bool,
     paths: FiveTables<String>,
@@ -49,6 +51,7 @@ impl<'a> Model for Words<'a> {
       call = call_shown w.call;
       version = w.version;
       tries = w.tries;
+      form = w.form;
       changes = option_map (λ t. t.now) w.changes;
       detail = w.detail;
       paths = paths_kept w.paths;
@@ -128,6 +131,13 @@ impl<'a> Words<'a> {
         ensures { result ≡ self.now.tries }
     {
         self.tries
+    }
+
+    /// The form in which rows are written.
+    pub fn form(&self) -> Form
+        ensures { result ≡ self.now.form }
+    {
+        self.form
     }
 
     /// The path of the file of changes, where one was given.

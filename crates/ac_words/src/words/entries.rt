@@ -2,10 +2,11 @@
 ghost use Rattle.std.specs.Prelude.{◌≡◌, ◌∷◌, IfErr, IfOk, OnOk, Some, [], codes, option_and_then, option_map, true};
 ghost use Rattle.ac_run.specs.Tasks.{candidates, command_shown, list, tokens};
 ghost use Rattle.clap.specs.Words.{first_of, found_of, rows_of, subcommand_rows_of};
-ghost use Rattle.ac_words.specs.Words.{IsMadeOf, Says, Tells, after_of, asking, asking_beside, at_of, call_of, call_shown, command_found, is_complete, is_set, option_kinds, own_faults, reading_of, traits_of, tries_kinds, tries_named, tries_of, version_kinds, version_named, version_of, within_in, aggregate_kinds, aggregate_named, aggregate_of, aggregates_kinds};
+ghost use Rattle.ac_words.specs.Words.{IsMadeOf, Says, Tells, after_of, asking, asking_beside, at_of, call_of, call_shown, command_found, form_kinds, form_named, form_of, is_complete, is_set, option_kinds, own_faults, reading_of, traits_of, tries_kinds, tries_named, tries_of, version_kinds, version_named, version_of, within_in, aggregate_kinds, aggregate_named, aggregate_of, aggregates_kinds};
 
 use super::tables::needed_paths;
 use super::{Call, WordFault, Words, fault_of, grammar};
+use crate::form::Form;
 use crate::name::Name;
 use ac_base::{Id, read_count};
 use ac_query::Version;
@@ -279,6 +280,39 @@ fn options(alloc: Global, name: Name, entries: &ArgMatches<'_>) -> Result<Option
     Ok(tries)
 }
 
+// The form that a text names; without it, comma-separated values.
+fn form_named(text: Option<&str>) -> Option<Form>
+    ensures { result ≡ form_named (option_map (λ t. t.now) text.entry) }
+{
+    match text {
+        None | Some("csv") => Some(Form::Csv),
+        Some("table") => Some(Form::Table),
+        Some("json") => Some(Form::Json),
+        Some(_) => None,
+    }
+}
+
+// The form in which rows are written.
+fn form(alloc: Global, name: Name, entries: &ArgMatches<'_>) -> Result<Form, WordFault>
+    ensures form { IfOk result (λ form. form_of (rows_of (found_of entries.now)) ≡ Some form) }
+    ensures ok { OnOk result (form_kinds (rows_of (found_of entries.now)) ≡ []) }
+    ensures fault { IfErr result (Tells (form_kinds (rows_of (found_of entries.now)))) }
+{
+    let text = entry(entries, "format");
+    let Some(form) = form_named(text) else {
+        let text = text.unwrap_or("");
+        let message = format!(in alloc;
+            "invalid value '{text}' for '--format <FORM>': it is csv, table or json"
+        )?;
+        return Err(refusal(alloc, name, ErrorKind::InvalidValue, message.as_str())?);
+    };
+    if text.is_some() && is_set(entries, "prometheus") {
+        let message = "the argument '--format <FORM>' cannot be used with '--prometheus'";
+        return Err(refusal(alloc, name, ErrorKind::ArgumentConflict, message)?);
+    }
+    Ok(form)
+}
+
 // The command that was found, and its entries.
 fn find_command<'m, 'a>(matches: &'m ArgMatches<'a>) -> Option<(Name, &'m ArgMatches<'a>)>
     ensures { option_map (λ found. (found.0, rows_of (found_of found.1.now))) result
@@ -304,6 +338,7 @@ fn words_with<'a>(
 {
     let version = version(alloc, name, entries)?;
     let tries = options(alloc, name, entries)?;
+    let form = form(alloc, name, entries)?;
     let paths = needed_paths(alloc, name, entries)?;
     let changes = entry(entries, "change");
     let detail = is_set(entries, "detail");
@@ -311,6 +346,7 @@ fn words_with<'a>(
         call,
         version,
         tries,
+        form,
         changes,
         detail,
         paths,

@@ -2,7 +2,7 @@
 ghost use Rattle.std.specs.Prelude.{◌≡◌, IfOk, false};
 ghost use Rattle.clap.specs.Words.{app_of, rule_of};
 ghost use Rattle.clap.specs.declared.builder.command.Command.TheViews.{out-Command as fields_of};
-ghost use Rattle.ac_words.specs.Words.{app_for, audit_app, candidates_app, capacity_app, compare_app, check_app, explain_app, fill_app, flag_rule, free_rule, hosts_app, list_app, option_rule, program, query_app, reading_app, search_app, session_app, shown_app, tokens_app, verify_app, why_app, with_change, with_common, with_detail, with_options, with_tables, with_tries, with_version, word_rule};
+ghost use Rattle.ac_words.specs.Words.{app_for, audit_app, candidates_app, capacity_app, compare_app, check_app, explain_app, fill_app, flag_rule, free_rule, hosts_app, list_app, option_rule, program, query_app, reading_app, search_app, session_app, shown_app, tokens_app, verify_app, why_app, with_change, with_common, with_detail, with_format, with_options, with_tables, with_tries, with_version, word_rule};
 
 use super::help;
 use crate::name::Name;
@@ -183,6 +183,21 @@ fn add_tries<'a>(alloc: Global, command: Command<'a>) -> Result<Command<'a>, All
     Ok(command)
 }
 
+// Adds the form in which rows are written.
+fn add_format<'a>(alloc: Global, command: Command<'a>) -> Result<Command<'a>, AllocError>
+    ensures app { IfOk result (λ c. app_of c ≡ with_format (app_of command.entry)) }
+    ensures local { (fields_of command.entry).has_globals ≡ false
+        → IfOk result (λ c. (fields_of c).has_globals ≡ false) }
+{
+    let form = option(
+        alloc,
+        "format",
+        "FORM",
+        "Writes the rows as `csv`, as a `table` drawn with lines, or as `json`, a list of objects [default: csv]",
+    );
+    command.arg(form.short('f'))
+}
+
 // A command with a query.
 fn with_query<'a>(
     alloc: Global,
@@ -298,14 +313,15 @@ fn list<'a>(alloc: Global) -> Result<Command<'a>, AllocError>
     ensures app { IfOk result (λ c. app_of c ≡ list_app) }
     ensures local { IfOk result (λ c. (fields_of c).has_globals ≡ false) }
 {
-    shown(
+    let command = shown(
         alloc,
         "list",
-        "Writes the candidates for a query as rows, one for each of their providers (CSV)",
+        "Writes the candidates for a query as rows, one for each of their providers",
         "ac_cli list [OPTIONS] --tables <DIR> <QUERY>\n       \
          ac_cli list [OPTIONS] --providers <FILE> --inventories <FILE> <QUERY>",
         help::LIST,
-    )
+    )?;
+    add_format(alloc, command)
 }
 
 fn fill<'a>(alloc: Global) -> Result<Command<'a>, AllocError>
@@ -371,7 +387,7 @@ fn hosts<'a>(alloc: Global) -> Result<Command<'a>, AllocError>
     let command = with_query(
         alloc,
         "hosts",
-        "Writes whether a query fits at each root, and what is missing there (CSV)",
+        "Writes whether a query fits at each root, and what is missing there",
         "ac_cli hosts [OPTIONS] --tables <DIR> <QUERY>\n       \
          ac_cli hosts [OPTIONS] --providers <FILE> --inventories <FILE> <QUERY>",
         help::HOSTS,
@@ -383,11 +399,12 @@ fn hosts<'a>(alloc: Global) -> Result<Command<'a>, AllocError>
         "UUID",
         "Writes of those roots alone that are in this aggregate, or have a provider in their tree that is",
     ))?;
-    command.arg(flag(
+    let command = command.arg(flag(
         alloc,
         "sum",
         "Writes how many roots lack what, in place of a row for each",
-    ))
+    ))?;
+    add_format(alloc, command)
 }
 
 fn why<'a>(alloc: Global) -> Result<Command<'a>, AllocError>
@@ -397,7 +414,7 @@ fn why<'a>(alloc: Global) -> Result<Command<'a>, AllocError>
     let command = with_query(
         alloc,
         "why",
-        "Writes how far each provider of a host comes, and what it lacks (CSV): why not this host",
+        "Writes how far each provider of a host comes, and what it lacks: why not this host",
         "ac_cli why [OPTIONS] --tables <DIR> <QUERY> <HOST>\n       \
          ac_cli why [OPTIONS] --providers <FILE> --inventories <FILE> <QUERY> <HOST>",
         help::WHY,
@@ -408,7 +425,8 @@ fn why<'a>(alloc: Global) -> Result<Command<'a>, AllocError>
         "HOST",
         "A provider of the host: its UUID, or a name that no other provider has",
     ))?;
-    add_tries(alloc, command)
+    let command = add_tries(alloc, command)?;
+    add_format(alloc, command)
 }
 
 fn capacity<'a>(alloc: Global) -> Result<Command<'a>, AllocError>
@@ -416,7 +434,7 @@ fn capacity<'a>(alloc: Global) -> Result<Command<'a>, AllocError>
     ensures local { IfOk result (λ c. (fields_of c).has_globals ≡ false) }
 {
     let command = Command::new(alloc, "capacity")
-        .about("Writes how many of each flavor fit, at how many hosts, and what is short (CSV)")
+        .about("Writes how many of each flavor fit, at how many hosts, and what is short")
         .override_usage(
             "ac_cli capacity [OPTIONS] --tables <DIR> <FLAVORS>\n       \
              ac_cli capacity [OPTIONS] --providers <FILE> --inventories <FILE> <FLAVORS>",
@@ -429,11 +447,12 @@ fn capacity<'a>(alloc: Global) -> Result<Command<'a>, AllocError>
         "A table of flavors: the columns flavor and query, and wanted if it is there (CSV)",
     ))?;
     let command = add_tries(alloc, command)?;
-    command.arg(flag(
+    let command = command.arg(flag(
         alloc,
         "prometheus",
         "Writes the numbers as metrics, in the text format of Prometheus",
-    ))
+    ))?;
+    add_format(alloc, command)
 }
 
 fn compare<'a>(alloc: Global) -> Result<Command<'a>, AllocError>
@@ -462,19 +481,20 @@ fn audit<'a>(alloc: Global) -> Result<Command<'a>, AllocError>
     ensures local { IfOk result (λ c. (fields_of c).has_globals ≡ false) }
 {
     let command = Command::new(alloc, "audit")
-        .about("Writes what is amiss in the cloud, whatever is asked of it (CSV)")
+        .about("Writes what is amiss in the cloud, whatever is asked of it")
         .override_usage(
             "ac_cli audit [OPTIONS] --tables <DIR>\n       \
              ac_cli audit [OPTIONS] --providers <FILE> --inventories <FILE>",
         )
         .after_help(help::AUDIT);
     let command = add_common(alloc, command)?;
-    command.arg(option(
+    let command = command.arg(option(
         alloc,
         "zone",
         "UUID",
         "Also tells of each sharing provider that isn't in this aggregate, while hosts that it shares with are",
-    ))
+    ))?;
+    add_format(alloc, command)
 }
 
 fn query<'a>(alloc: Global) -> Result<Command<'a>, AllocError>

@@ -72,7 +72,7 @@ pub(super) const TOKENS: &str = searching!(
 pub(super) const LIST: &str = searching!(
     "  0  the candidates are written, if there are any\n",
     "  4  the query was refused\n  5  the token was refused\n",
-    "  ac_cli list 'resources=VCPU:2,DISK_GB:20&limit=10' --tables cloud | column -ts,"
+    "  ac_cli list 'resources=VCPU:2,DISK_GB:20&limit=10' --tables cloud -f table"
 );
 
 pub(super) const FILL: &str = searching!(

@@ -5,16 +5,16 @@ use Rattle.ac_cli.proofs.InMemory.{session_held, task_left}
 use Rattle.ac_cli.proofs.memory.answer_in_memory.Goals as goal
 
 pub returns-clause-task : goal.returns-clause-task
-returns-clause-task c = λ task b asks.
+returns-clause-task c = λ form task b asks.
     let small = c.if-status-gt6.false in
     let out_whole = c.if-out-gt0.false in
     let err_whole = c.if-err-gt0.false in
     let left = task_left c.new-questions.result (words_shown c.args.words.now) (files_shown c.args.files.now) _ _ (ap Some c.new.ensures.bytes) c.new.ensures.failures
-    (grind (arith, nat_tests, out_whole)) c.new-err.ensures.failures (grind (arith, nat_tests, err_whole)) (grind (arith, nat_tests, small)) b (λ given is. is) task asks
+    (grind (arith, nat_tests, out_whole)) c.new-err.ensures.failures (grind (arith, nat_tests, err_whole)) (grind (arith, nat_tests, small)) b (λ given is. is) form task asks
     c.answer-status.ensures in
     record {
-      output = left.output ∙ ap (λ l. l ++ (left_by task b).output) c.new.ensures.bytes;
-      errors = left.line ∙ ap (λ l. l ++ (left_by task b).line) c.new-err.ensures.bytes;
+      output = left.output ∙ ap (λ l. l ++ (left_by form task b).output) c.new.ensures.bytes;
+      errors = left.line ∙ ap (λ l. l ++ (left_by form task b).line) c.new-err.ensures.bytes;
       status = left.status;
     }
 

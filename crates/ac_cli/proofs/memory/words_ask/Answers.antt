@@ -5,6 +5,7 @@ use Rattle.ac_run.specs.Tasks.{check}
 use Rattle.ac_tables.specs.Tables.Names.{table_name}
 use Rattle.ac_words.specs.Names.{name_read}
 use Rattle.ac_words.specs.Words.{call_of, faults, job, named, paths_in}
+use Rattle.ac_words.specs.declared.form.Form.TheVariants.{Csv}
 use Rattle.ac_cli.proofs.memory.words_ask.Goals as goal
 
 pub returns : goal.returns
@@ -14,11 +15,12 @@ returns c = λ files b has.
       over = record {
         some = omega arith;
         fine = refl;
-        line = record { call = job check []; version = V136; tries = None; changes = None; detail = false; paths = paths_in (codes "cloud") };
-        says = record { call = refl; version = refl; tries = refl; changes = refl; detail = refl; paths = refl };
+        line = record { call = job check []; version = V136; tries = None; form = Csv; changes = None; detail = false; paths = paths_in (codes "cloud") };
+        says = record { call = refl; version = refl; tries = refl; form = refl; changes = refl; detail = refl; paths = refl };
         file = [];
         changes = None;
         there = record { tables = has; own = refl; few = refl; changed = tt; few_changes = refl };
       };
+      formed = refl;
       asks = refl;
     }

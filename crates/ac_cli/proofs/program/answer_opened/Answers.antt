@@ -6,7 +6,7 @@ use Rattle.ac_cli.proofs.program.answer_opened.Goals as goal
 
 pub returns-in-Some : goal.returns-in-Some
 returns-in-Some g c =
-    ran_call _ _ _ _ c.args.words.now c.args.file.now (changes_shown c.args.changes) c.args.inputs.now c.ran_job.new.inputs c.args.questions _ _ (task_of c.in-Some.job)
+    ran_call _ _ _ _ c.args.words.now c.args.file.now (changes_shown c.args.changes) c.args.inputs.now c.ran_job.new.inputs c.args.questions _ _ _ c.form.ensures (task_of c.in-Some.job)
     (c.in-Some.ensures ∙ ap (task_in c.args.words.now c.args.file.now (changes_shown c.args.changes)) c.detail_of-detail.ensures) c.ran_job.ensures
 
 pub returns-in-None : goal.returns-in-None

@@ -8,7 +8,7 @@ pub returns : goal.returns
 returns g c =
     record {
       from = c.inputs.result;
-      to = c.ran.new.inputs;
+      to = c.ran_gathered.new.inputs;
       tells = c.inputs.ensures;
-      ran = of_task _ (λ (feed : MemFile). 0) c.inputs.result c.ran.new.inputs _ _ (task_of c.job.result) sample_task c.job.ensures c.ran.ensures.ran;
+      ran = of_task _ (λ (feed : MemFile). 0) c.inputs.result c.ran_gathered.new.inputs _ _ (task_of c.job.result) sample_task c.job.ensures c.ran_gathered.ensures.ran;
     }

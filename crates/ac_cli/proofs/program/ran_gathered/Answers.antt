@@ -3,7 +3,7 @@ use Rattle.std.proofs.KnownBytes.{Keeps-refl}
 use Rattle.ac_base.proofs.HandedOn.{from_err, from_ok, later_rise, part_more, same_rise, text_more, whole_text}
 use Rattle.ac_base.specs.Gathered.Below.{sink_below}
 use Rattle.ac_cli.proofs.RanTasks.{none_ran}
-use Rattle.ac_cli.proofs.program.ran.Goals as goal
+use Rattle.ac_cli.proofs.program.ran_gathered.Goals as goal
 
 pub returns-in_default-clause-ran : goal.returns-in_default-clause-ran
 returns-in_default-clause-ran g c =
