@@ -712,6 +712,7 @@ WORDS = [
         'verify q -t --providers a --inventories b', 'verify q t t --providers a --inventories b', 'why --providers a --inventories b',
         '--detail', 'check --detail=true --tables d', 'session --details --tables d', 'verify q t --tables --detail',
         'tokens q --detail=yes --tables d', 'verify q t --providers a --inventories b --microversion=1.390')),
+    words_told('tokens q', WORDS_NEEDED, '  --tables <DIR>\n'),
     words_told('tokens q --usages c --traits d --aggregates e', WORDS_NEEDED, *each_file('providers', 'inventories')),
     words_told('tokens q --providers a', WORDS_NEEDED, *each_file('inventories')),
     words_told('tokens q --inventories b', WORDS_NEEDED, *each_file('providers')),

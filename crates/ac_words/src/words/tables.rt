@@ -73,7 +73,7 @@ fn options_beside_the_folder(
     refusal(alloc, name, ErrorKind::ArgumentConflict, message.as_str())
 }
 
-// What the user is told of needed options that are missing.
+// What the user is told of needed options that are missing: the folder, where no table is named.
 fn missing_options(
     alloc: Global,
     name: Name,
@@ -82,7 +82,11 @@ fn missing_options(
     ensures { IfOk result (Tells (MissingRequiredArgument ∷ [])) }
 {
     let needed = [Table::Providers, Table::Inventories];
-    let missing = option_lines(alloc, entries, &needed, false)?;
+    let missing = if has_some_option(entries) {
+        option_lines(alloc, entries, &needed, false)?
+    } else {
+        String::from_str(alloc, "\n  --tables <DIR>")?
+    };
     let message = format!(in alloc;
         "the following required arguments were not provided:{missing}"
     )?;
