@@ -7,6 +7,8 @@ Each answer must be what a process of its own answers over the tables as the ses
 
 tests/sessions.py spread PROGRAM: the command that docs/SESSION.md has for GNU parallel must answer as one session does.
 
+tests/sessions.py zones PROGRAM: examples/spread.py must answer a trace on three workers of dask as in one session.
+
 Each writes what went wrong, and then ends with status 1. tests/program.py calls them, and takes from here the cases of sessions: what lines answer,
 random sessions by the model, input and output that fail, memory that is bounded or refused, and the examples that stand on the driver."""
 from __future__ import annotations
@@ -33,6 +35,7 @@ from notation import HEADERS
 
 ROOT = os.path.dirname(os.path.dirname(os.path.abspath(__file__)))
 PRIVATE = os.path.join(ROOT, 'examples', 'private')
+ZONES = {'az1': '010493bc-cf07-48ef-a3f8-2c34ebf7bb84', 'az2': '8aa58ffb-9c43-4339-98ce-11b862f8f877', 'az3': 'a232bcda-d98a-469b-9acc-f7834aad3560'}
 TWO = 'resources=VCPU:2'
 # The last candidate for it in examples/cloud.
 LAST = 'b48d0f61-9e2c-4c7a-83d5-e6047b15ac05'
@@ -1218,6 +1221,32 @@ def spread(program, number=3500):
     return None if told[0] == told[1] and told[0].count('\n= ') >= number - 1 else f'{told[1][:300]!r}, and not {told[0][:300]!r}'
 
 
+# ---- Sessions as workers of dask
+
+def with_dask():
+    """A Python that has dask's `distributed`, which Debian has for its own; or None."""
+    for python in (sys.executable, '/usr/bin/python3'):
+        if os.path.exists(python) and not subprocess.run([python, '-c', 'import distributed'], capture_output=True, check=False).returncode:
+            return python
+    return None
+
+
+def zones(program, number=300, seed=3):
+    """What three workers answered otherwise than one session."""
+    chance, there, rows = random.Random(seed), [], ['what,name,flavor,zone']
+    for n in range(number):
+        if there and chance.random() < 0.35:
+            rows.append(f'depart,{there.pop(chance.randrange(len(there)))}')
+        else:
+            there.append(f'i{n},{chance.choice(("m1.small", "m1.large", "c1.pinned", "g1.vgpu", "n1.router"))},{chance.choice(list(ZONES))}')
+            rows.append(f'arrive,{there[-1]}')
+    words = [with_dask(), 'examples/spread.py', 'examples/private', '/dev/stdin', 'examples/flavors.csv', '--zones', ','.join(map('='.join, ZONES.items()))]
+    told = [subprocess.run([*words, '--workers', workers], cwd=ROOT, env={**os.environ, 'AC_CLI': program}, input='\n'.join(rows), capture_output=True, text=True, check=False).stdout
+            for workers in ('0', '3')]
+    placed = [row for row in told[0].splitlines() if not row.endswith(',')]
+    return None if told[0] == told[1] and len(placed) > 30 else f'{told[1][:300]!r}, and not {told[0][:300]!r}'
+
+
 # ---- Memory, and what stands on sessions
 
 def growing(name, program, given, cloud, *words):
@@ -1385,18 +1414,22 @@ def sessions(program):
     yield Case('session: each answer is that of a process of its own', [*this, 'trace', program])
     if shutil.which('parallel'):
         yield Case('docs/SESSION.md: the command by GNU parallel', [*this, 'spread', program])
+    if with_dask():
+        yield Case('examples/spread.py: each zone on a worker of dask', [*this, 'zones', program])
 
 
 def untried():
     """What isn't tried here, and why."""
     if not shutil.which('parallel'):
         yield 'docs/SESSION.md: the command by GNU parallel, which isn\'t installed'
+    if not with_dask():
+        yield 'examples/spread.py: the workers of dask, which isn\'t installed'
     if not (shutil.which('chromium') and shutil.which('chromedriver')):
         yield 'tools/report: the page, as Chromium shows it: chromium or chromedriver isn\'t installed'
 
 
 def main(mode, program, *number):
-    why = {'waits': waits, 'trace': traced, 'spread': spread}[mode](program, *map(int, number))
+    why = {'waits': waits, 'trace': traced, 'spread': spread, 'zones': zones}[mode](program, *map(int, number))
     if why:
         print(why)
     return 1 if why else 0
