@@ -50,8 +50,10 @@ def commands():
     return {name: text(name) for name, _ in pairs(text('ac_cli'), 'Commands') if name != 'help'}
 
 
-def versions(option):
-    return re.findall(r'\b\d+\.\d+\b(?!\])', option.told)
+def values(option):
+    """The values that its help names: versions, or forms."""
+    form = r'`(\w+)`' if option.value == 'FORM' else r'\b\d+\.\d+\b(?!\])'
+    return ' '.join(dict.fromkeys(re.findall(form, option.told)))
 
 
 # ---- the manual page
@@ -118,7 +120,11 @@ def bash():
     def named(value):
         return ' | '.join(name for name, option in every.items() if option.value == value)
 
-    version = next(option for option in every.values() if option.value == 'VERSION')
+    listed = ''.join(f"""    {' | '.join(option.names)})
+        mapfile -t COMPREPLY < <(compgen -W '{values(option)}' -- "$word")
+        return
+        ;;
+""" for option in every.values() if option.value in ('VERSION', 'FORM'))
     return f'''# What bash completes after `ac_cli`. tools/make-help.py makes this file of the texts in docs/help. Source it in ~/.bashrc, or copy it as `ac_cli` into
 # ~/.local/share/bash-completion/completions.
 
@@ -136,11 +142,7 @@ _ac_cli() {{
         mapfile -t COMPREPLY < <(compgen -f -- "$word")
         return
         ;;
-    {long(version)})
-        mapfile -t COMPREPLY < <(compgen -W '{" ".join(dict.fromkeys(versions(version)))}' -- "$word")
-        return
-        ;;
-    {named("TOKEN")})
+{listed}    {named("TOKEN")})
         return
         ;;
     esac
@@ -169,8 +171,8 @@ def zsh():
     def spec(option):
         if '-h' in option.names:
             return "'(-h --help)'{-h,--help}'[" + quoted(option.told) + "]'"
-        values = kinds.get(option.value, f':version:({" ".join(dict.fromkeys(versions(option)))})' if option.value else '')
-        return f"'{long(option)}[{quoted(option.told)}]{values}'"
+        value = kinds.get(option.value, f':{option.value.lower()}:({values(option)})' if option.value else '')
+        return f"'{long(option)}[{quoted(option.told)}]{value}'"
 
     described = ''.join(f"    '{name}:{quoted(told)}'\n" for name, told in pairs(text('ac_cli'), 'Commands'))
     cases = ''

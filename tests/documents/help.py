@@ -36,7 +36,7 @@ def by_bash():
     commands = help.commands()
     wanted = {('',): {*commands, 'help', '--help', '--version'}, ('help', ''): {*commands, 'help'}, ('tok',): {'tokens'},
               ('tokens', '--a'): {'--aggregates', '--after', '--at'}, ('check', '--tables', 'exam'): {'examples'}, ('why', '--microversion', ''): {'1.36', '1.37', '1.38', '1.39'},
-              ('list', '--usages', 'examples/prov'): {'examples/providers.csv'}, ('tokens', '--after', ''): set(),
+              ('list', '--usages', 'examples/prov'): {'examples/providers.csv'}, ('tokens', '--after', ''): set(), **{('hosts', name, ''): {'csv', 'table', 'json'} for name in ('-f', '--format')},
               **{(name, '--'): {help.long(option) for option in help.options(said)} for name, said in commands.items()}}
     yield from (f'{BASH}: behind {words} it completes {sorted(completed(*words))}, and not {sorted(says)}' for words, says in wanted.items()
                 if completed(*words) != says)

@@ -19,6 +19,10 @@ _ac_cli() {
         mapfile -t COMPREPLY < <(compgen -W '1.36 1.37 1.38 1.39' -- "$word")
         return
         ;;
+    -f | --format)
+        mapfile -t COMPREPLY < <(compgen -W 'csv table json' -- "$word")
+        return
+        ;;
     --after)
         return
         ;;
@@ -30,15 +34,15 @@ _ac_cli() {
         check) offered='--tables --providers --inventories --usages --traits --aggregates --change --detail --help' ;;
         candidates) offered='--tables --providers --inventories --usages --traits --aggregates --change --detail --microversion --tries --after --at --no-traits --help' ;;
         tokens) offered='--tables --providers --inventories --usages --traits --aggregates --change --detail --microversion --tries --after --at --help' ;;
-        list) offered='--tables --providers --inventories --usages --traits --aggregates --change --detail --microversion --tries --after --at --no-traits --help' ;;
+        list) offered='--tables --providers --inventories --usages --traits --aggregates --change --detail --microversion --tries --after --at --no-traits --format --help' ;;
         fill) offered='--tables --providers --inventories --usages --traits --aggregates --change --detail --microversion --tries --sum --help' ;;
         verify) offered='--tables --providers --inventories --usages --traits --aggregates --change --detail --microversion --help' ;;
         explain) offered='--tables --providers --inventories --usages --traits --aggregates --change --detail --microversion --tries --help' ;;
-        hosts) offered='--tables --providers --inventories --usages --traits --aggregates --change --detail --microversion --tries --in --sum --help' ;;
-        why) offered='--tables --providers --inventories --usages --traits --aggregates --change --detail --microversion --tries --help' ;;
-        capacity) offered='--tables --providers --inventories --usages --traits --aggregates --change --detail --microversion --tries --prometheus --help' ;;
+        hosts) offered='--tables --providers --inventories --usages --traits --aggregates --change --detail --microversion --tries --in --sum --format --help' ;;
+        why) offered='--tables --providers --inventories --usages --traits --aggregates --change --detail --microversion --tries --format --help' ;;
+        capacity) offered='--tables --providers --inventories --usages --traits --aggregates --change --detail --microversion --tries --prometheus --format --help' ;;
         compare) offered='--tables --providers --inventories --usages --traits --aggregates --change --detail --microversion --tries --help' ;;
-        audit) offered='--tables --providers --inventories --usages --traits --aggregates --change --detail --zone --help' ;;
+        audit) offered='--tables --providers --inventories --usages --traits --aggregates --change --detail --zone --format --help' ;;
         query) offered='--detail --microversion --help' ;;
         session) offered='--tables --providers --inventories --usages --traits --aggregates --change --detail --microversion --tries --help' ;;
         help) offered='check candidates tokens list fill verify explain hosts why capacity compare audit query session help' ;;
