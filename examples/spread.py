@@ -47,6 +47,11 @@ def main():
         trace = list(csv.DictReader(table))
     names, parts = {}, {zone: [] for zone in zones}
     for number, event in enumerate(trace, 1):
+        if event['what'] not in ('arrive', 'depart'):
+            sys.exit(f'event {number}: {event["name"]} neither arrives nor departs')
+        for what, known in ('flavor', queries), ('zone', zones):
+            if event[what] not in known:
+                sys.exit(f'event {number}: no {what} {event[what]}')
         names[number] = event['name']
         parts[event['zone']].append((number, event['what'], event['name'], f'{queries[event["flavor"]]}&member_of={zones[event["zone"]]}'))
     try:

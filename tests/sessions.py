@@ -1414,6 +1414,9 @@ def sessions(program):
     yield Case('session: each answer is that of a process of its own', [*this, 'trace', program])
     if shutil.which('parallel'):
         yield Case('docs/SESSION.md: the command by GNU parallel', [*this, 'spread', program])
+    for event, told in ('arrive,a,m1.small,az9', 'no zone az9'), ('arrive,a,m9,az1', 'no flavor m9'), ('place,a,m1.small,az1', 'a neither arrives nor departs'):
+        yield Case(f'examples/spread.py: {told}', ['sh', '-c', 'AC_CLI="$0" exec examples/spread.py examples/private /dev/stdin examples/flavors.csv --workers 0 --zones "$1"',
+                                                   program, f'az1={ZONES["az1"]}'], '', f'event 1: {told}\n', 1, given=f'what,name,flavor,zone\n{event}\n'.encode())
     if with_dask():
         yield Case('examples/spread.py: each zone on a worker of dask', [*this, 'zones', program])
 
