@@ -10,6 +10,7 @@ HEADERS = {
     'usages': ('resource_provider', 'resource_class', 'usage'),
     'traits': ('resource_provider', 'name'),
     'aggregates': ('resource_provider', 'uuid'),
+    'aggregate-names': ('uuid', 'name'),
 }
 KINDS = 'flat', 'numa', 'nfv', 'gpu', 'numa', 'flat', 'numa', 'nfv', 'numa', 'flat'
 ZONES = 'az1', 'az2', 'az3'
@@ -105,12 +106,13 @@ class Private:
 
 
 def tables(chance, hosts, kinds, traits):
-    """The rows of the five tables, zone by zone. The last zone's storage isn't in the zone's aggregate, but in one for storage, with the hosts. One host
-    of fifty is disabled, and at least one."""
+    """The rows of the five tables, and the names of the zones' aggregates, zone by zone. The last zone's storage isn't in the zone's aggregate, but in one
+    for storage, with the hosts. One host of fifty is disabled, and at least one."""
     cloud = Private(chance, traits)
     disabled = set(chance.sample(range(hosts), max(hosts // 50, min(hosts, 1))))
     for zone, name in enumerate(ZONES):
         aggregates = [cloud.new_id() for _ in range(2 if name == ZONES[-1] else 1)]
+        cloud.rows['aggregate-names'].append((aggregates[0], name))
         numbers = range(hosts * zone // 3, hosts * (zone + 1) // 3)
         cloud.ceph(f'ceph-{name}', len(numbers), aggregates[-1])
         for place, number in enumerate(numbers):

@@ -1,6 +1,6 @@
 #!/usr/bin/env python3
 """tools/draw-cloud.py --tables DIR [--token TOKEN] [--tree NAME].. [--query QUERY]
-tools/draw-cloud.py --hosts HOSTS.csv --tables DIR [--by UUID[=NAME],..].. [--query QUERY]
+tools/draw-cloud.py --hosts HOSTS.csv --tables DIR [--by AGGREGATE[=NAME],..].. [--query QUERY]
 
 Draws a cloud from its tables, as SVG on standard output. In the first form, each frame is a tree. An arrow leads from a parent to its child, and a
 dashed arrow from a sharing provider to the root of each other tree that may use it. A box says how much is left of each class. With a token, as
@@ -10,10 +10,11 @@ that the query names are always shown.
 
 With --hosts, the picture has a square for each row of `ac_cli hosts`, in rows by aggregate. Its colour says whether the query fits there, and else what
 is lacking. Names are shown where the pointer is. The query is written above. The squares of a row stand in the order of names, and those without a name
-behind. A host is in the aggregates of its root provider. If there are several, it stands in the first by UUID, so the rows of others are less than whole.
+behind. A host is in the aggregates of its root provider. If there are several, it stands in the first, so the rows of others are less than whole. Rows with
+a name, by aggregate-names.csv in DIR, come first, in the order of names, then the others in that of UUIDs.
 
-With --by, the rows are these aggregates, such as zones, in this order, and each is whole: a host stands in every one that it is in. NAME is the title of
-a row, and has no comma. How many hosts are in none of them is told below. The numbers beside the colours are of the others, each counted once."""
+With --by, the rows are these aggregates, such as zones, by UUID or name, in this order, and each is whole: a host stands in every one that it is in. NAME is
+the title of a row, and has no comma. How many hosts are in none of them is told below. The numbers beside the colours are of the others, each counted once."""
 from __future__ import annotations
 
 import argparse
@@ -25,7 +26,7 @@ from urllib.parse import parse_qsl
 sys.dont_write_bytecode = True
 
 from pictures import hosts, trees
-from pictures.cloud import LONGEST, TABLES, UNREADABLE, NotDrawn, cloud_of, fill, identity, named
+from pictures.cloud import LONGEST, TABLES, UNREADABLE, NotDrawn, aggregate_named, cloud_of, fill, identity, named, names_of
 
 MOST_TREES = 30
 
@@ -41,7 +42,7 @@ def words():
     parser.add_argument('--tree', action='append', default=[], metavar='NAME', help='a provider whose tree is drawn: its UUID, or its name')
     parser.add_argument('--query', default='', help='the query, of which traits are always shown')
     parser.add_argument('--hosts', metavar='FILE', help='what `ac_cli hosts` wrote, or - for standard input: draws squares and no trees')
-    parser.add_argument('--by', action='append', default=[], metavar='UUID[=NAME],..', help='with --hosts: the aggregates that are rows, and their titles')
+    parser.add_argument('--by', action='append', default=[], metavar='AGGREGATE[=NAME],..', help='with --hosts: the aggregates that are rows, and their titles')
     asked = parser.parse_args()
     paths = {name: vars(asked)[name] for name in TABLES}
     if asked.tables and any(paths.values()):
@@ -73,12 +74,14 @@ def named_by(option, text, what):
         raise NotDrawn(f"--{option}: {text[:LONGEST]!r} isn't a UUID; {what}", 2) from fault
 
 
-def rows_asked(words):
+def rows_asked(words, names, titles):
     """The aggregates that are to be rows, and their titles."""
     for one in ','.join(words).split(','):
-        aggregate, _, title = one.partition('=')
-        aggregate = named_by('by', aggregate, 'give the UUIDs of aggregates between commas, each alone or as UUID=NAME')
-        yield aggregate, title or aggregate
+        text, _, title = one.partition('=')
+        aggregate = aggregate_named(text, names)
+        if aggregate is None:
+            raise NotDrawn(f"--by: {text[:LONGEST]!r} isn't a UUID, nor the name of one aggregate; give some between commas, each alone or as UUID=NAME", 2)
+        yield aggregate, title or titles.get(aggregate, aggregate)
 
 
 def trees_asked(asked, paths):
@@ -99,9 +102,11 @@ def trees_asked(asked, paths):
 
 
 def hosts_asked(asked, paths):
-    by = list(rows_asked(asked.by)) if asked.by else []
+    names = names_of(asked.tables)
+    titles = dict(reversed(names))
+    by = list(rows_asked(asked.by, names, titles)) if asked.by else []
     found = hosts.hosts_of(asked.hosts)
-    blocks = hosts.blocks_by(found, paths['aggregates'], by) if by else hosts.blocks_of(found, paths['aggregates'])
+    blocks = hosts.blocks_by(found, paths['aggregates'], by) if by else hosts.blocks_of(found, paths['aggregates'], titles)
     return hosts.picture(found, blocks, asked.query)
 
 

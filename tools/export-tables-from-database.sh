@@ -1,8 +1,10 @@
 #!/bin/sh
-# tools/export-tables-from-database.sh [--round-ratios] OUTDIR CLIENT [ARG..]: writes the five tables of a cloud, as ac_cli reads them, into
+# tools/export-tables-from-database.sh [--round-ratios] OUTDIR CLIENT [ARG..]: writes the tables of a cloud, as ac_cli reads them, into
 # OUTDIR, straight from Placement's database. CLIENT ARG.. is the command by which you would open that database: mysql or mariadb, psql, or
 # sqlite3 (docs/EXPORT.md). The client is started once. It answers one query for each table, all in one transaction that only reads, so the tables are
 # of one moment. They have the columns of tools/export-tables.sh. If the client fails, OUTDIR stays as it was and the status is 1.
+# Afterwards the client reads the names of aggregates, in Nova's database `nova_api` on the same server. If it fails only then, aggregate-names.csv is
+# missing, a line says why, and an older one is deleted.
 # With --round-ratios, allocation ratios are written without an exponent and cut to six decimals. A line names each one that this changes.
 
 set -eu
@@ -48,6 +50,18 @@ SELECT 'end';
 X
 }
 
+# names HEX [SCHEMA]: prints the query for the names of aggregates, each with that of its zone. The last row of the answer is `named`.
+names() {
+    cat <<X
+SELECT 'names', g.uuid, $(echo "$1" | sed 's/@/g.name/'), $(echo "$1" | sed "s/@/COALESCE(z.value, '')/")
+    FROM ${2-}aggregates g
+    LEFT JOIN ${2-}aggregate_metadata z ON z.aggregate_id = g.id AND z.key = 'availability_zone'
+    WHERE g.uuid IS NOT NULL
+    ORDER BY g.id;
+SELECT 'named';
+X
+}
+
 # ask CLIENT [ARG..]: prints the rows of all tables, with tabs between fields, by one call of the client
 ask() {
     case ${1##*/} in
@@ -56,6 +70,7 @@ ask() {
             echo 'SET SESSION TRANSACTION ISOLATION LEVEL REPEATABLE READ;'
             echo 'START TRANSACTION WITH CONSISTENT SNAPSHOT, READ ONLY;'
             queries 'HEX(CONVERT(@ USING utf8mb4))' '@'
+            names 'HEX(CONVERT(@ USING utf8mb4))' nova_api.
         } | "$@" --batch --skip-column-names --skip-reconnect
         ;;
     psql)
@@ -65,6 +80,8 @@ ask() {
             echo 'SET extra_float_digits = 3;'
             echo 'BEGIN TRANSACTION ISOLATION LEVEL REPEATABLE READ, READ ONLY;'
             queries "encode(convert_to(@, 'UTF8'), 'hex')" '@'
+            printf '%s\n' '\set VERBOSITY terse' '\connect nova_api'
+            names "encode(convert_to(@, 'UTF8'), 'hex')"
         } | "$client" --no-psqlrc --quiet --no-align --tuples-only --field-separator="$tab" --set=ON_ERROR_STOP=1 "$@"
         ;;
     sqlite3)
@@ -74,13 +91,14 @@ ask() {
             echo '.timeout 10000'
             echo 'BEGIN;'
             queries 'hex(@)' 'quote(@)'
+            names 'hex(@)' nova_api.
         } | "$client" -init /dev/null -batch -bail -readonly -list -noheader -separator "$tab" "$@"
         ;;
     esac
 }
 
-# part: splits the rows into five tables in the form of the openstack client: texts in quotes, numbers without, and ratios as Python prints a float,
-# with the fewest digits that read as the same float
+# part: splits the rows into tables in the form of the openstack client: texts in quotes, numbers without, and ratios as Python prints a float,
+# with the fewest digits that read as the same float. There is a table of names only if all of them came.
 part() {
     awk -F '\t' -v room="$room" '
         function quoted(text) { gsub(/"/, "\"\"", text); return "\"" text "\"" }
@@ -107,6 +125,7 @@ part() {
             return substr(few, 1, power + 1) "." substr(few, power + 2)
         }
         function row(name, line) { print line >(room "/" name ".csv") }
+        function named(hex) { if (hex != "") names = names "\n" quoted($2) "," quoted(bytes(toupper(hex))) }
         BEGIN {
             hexes = "0123456789ABCDEF"
             row("providers", "\"uuid\",\"name\",\"generation\",\"root_provider_uuid\",\"parent_provider_uuid\"")
@@ -115,8 +134,14 @@ part() {
             row("usages", "\"resource_provider\",\"resource_class\",\"usage\"")
             row("traits", "\"resource_provider\",\"name\"")
             row("aggregates", "\"resource_provider\",\"uuid\"")
+            names = "\"uuid\",\"name\""
         }
-        ended { exit odd = 3 }
+        ended && $1 == "names" && NF == 4 {
+            named($3)
+            if ($4 != $3) named($4)
+            next
+        }
+        ended { last = last $0; next }
         $1 == "providers" && NF == 6 {
             providers++
             row($1, quoted($2) "," quoted(bytes(toupper($3))) "," $4 "," quoted($5) "," quoted($6))
@@ -130,7 +155,10 @@ part() {
         ($1 == "traits" || $1 == "aggregates") && NF == 3 { row($1, quoted($2) "," quoted($3)); next }
         $0 == "end" { ended = 1; next }
         { exit odd = 3 }
-        END { exit odd ? odd : !ended ? 4 : !providers ? 5 : 0 }' "$room/rows" || {
+        END {
+            if (last == "named") row("aggregate-names", names)
+            exit odd ? odd : !ended ? 4 : !providers ? 5 : 0
+        }' "$room/rows" || {
         case $? in
         3) stop 'the client printed a line that is no row of a table' ;;
         4) stop 'the client ended before it had printed all tables' ;;
@@ -147,6 +175,7 @@ esac
 begin "$1"
 shift
 command -v "$1" >"$room/found" || stop "there is no client $1 on the PATH"
-ask "$@" >"$room/rows" 2>"$room/said" || stop 'the client failed'
+ask "$@" >"$room/rows" 2>"$room/said" || grep -q '^end$' "$room/rows" || stop 'the client failed'
 part
+test -f "$room/aggregate-names.csv" || nameless
 hand_over

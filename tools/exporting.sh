@@ -1,6 +1,7 @@
 # tools/exporting.sh: what the two exports share. They read it with `.`, after setting `tool` (their name in messages) and `usage` (their command
-# line). It takes `--round-ratios` from their words. Both exports collect the tables in a folder inside OUTDIR, `room`. When all five are complete,
-# `hand_over` moves them to OUTDIR. If the export fails before that, OUTDIR stays as it was, and the status is 1.
+# line). It takes `--round-ratios` from their words. Both exports collect the tables in a folder inside OUTDIR, `room`. When all are complete,
+# `hand_over` moves them to OUTDIR. If the export fails before that, OUTDIR stays as it was, and the status is 1. Names of aggregates are Nova's, so the
+# table of them may be missing: then `nameless` says so, and the export goes on.
 
 export LC_ALL=C
 rounds=no
@@ -35,11 +36,19 @@ begin() {
     trap 'exit 1' HUP INT PIPE TERM
 }
 
-# hand_over: rounds the ratios if that was asked for, and gives the five tables their names
+# nameless: says that there is no table of names, and why: by the last line that the client wrote
+nameless() {
+    rm -f -- "$room/aggregate-names.csv"
+    why=$(tail -n 1 "$room/said")
+    printf '%s\n' "$tool: no aggregate-names.csv: the names of aggregates can't be had${why:+: $why}" >&2
+}
+
+# hand_over: rounds the ratios if that was asked for, and gives the tables their names. Without a table of names, an older one goes.
 hand_over() {
     test $rounds = no || round_ratios
-    for name in providers inventories usages traits aggregates; do
-        mv -f -- "$room/$name.csv" "$outdir/$name.csv"
+    test -f "$room/aggregate-names.csv" || rm -f -- "$outdir/aggregate-names.csv"
+    for name in providers inventories usages traits aggregates aggregate-names; do
+        test ! -f "$room/$name.csv" || mv -f -- "$room/$name.csv" "$outdir/$name.csv"
     done
 }
 

@@ -512,7 +512,10 @@ class Trial:
             for row in [row for row in others if row not in rows][:3]:
                 print('       only by the client:', dict(row))
         lines = [sorted(line.partition(': ')[2] for line in text.splitlines()) for text in (first[2], second[2])]
-        self.say(lines[0] == lines[1], f'{what}: {len(lines[0])} lines of rounded ratios, the same by both')
+        nameless = [[line for line in each if line.startswith('no aggregate-names.csv: ')] for each in lines]
+        lines = [[line for line in each if line not in nameless[0] + nameless[1]] for each in lines]
+        self.say(lines[0] == lines[1] and [len(each) for each in nameless] == [1, 1],
+                 f'{what}: {len(lines[0])} lines of rounded ratios, the same by both, and one that there are no names of aggregates', f'{nameless}\n')
 
     def compare(self, what, folder, queries):
         """Tries whether the program over exported tables answers as the service does."""

@@ -1,6 +1,7 @@
 #!/usr/bin/env python3
-"""tests/client/make_database.py FOLDER FILE: makes a SQLite file with the tables of Placement's database that the export reads, and puts into
-them the cloud whose joined tables are in the folder. What is used is parted over two consumers."""
+"""tests/client/make_database.py FOLDER FILE [NOVA]: makes a SQLite file with the tables of Placement's database that the export reads, and puts into
+them the cloud whose joined tables are in the folder. What is used is parted over two consumers. The aggregates in the table NOVA it puts into a file
+like Nova's database, FILE.nova_api, and with them one of an old cloud, which has no UUID yet."""
 import csv
 import os
 import sqlite3
@@ -19,11 +20,15 @@ CREATE TABLE resource_provider_traits (trait_id INTEGER NOT NULL, resource_provi
 CREATE TABLE placement_aggregates (id INTEGER PRIMARY KEY, uuid VARCHAR(36) UNIQUE);
 CREATE TABLE resource_provider_aggregates (resource_provider_id INTEGER NOT NULL, aggregate_id INTEGER NOT NULL);
 '''
+NOVA_SCHEMA = '''
+CREATE TABLE aggregates (id INTEGER PRIMARY KEY, uuid VARCHAR(36), name VARCHAR(255));
+CREATE TABLE aggregate_metadata (id INTEGER PRIMARY KEY, aggregate_id INTEGER NOT NULL, key VARCHAR(255) NOT NULL, value VARCHAR(255) NOT NULL);
+'''
 NUMBERS = 'total', 'reserved', 'min_unit', 'max_unit', 'step_size', 'allocation_ratio'
 
 
-def rows(folder, name):
-    with open(os.path.join(folder, name + '.csv'), encoding='utf-8', newline='') as file:
+def rows(path):
+    with open(path, encoding='utf-8', newline='') as file:
         return list(csv.DictReader(file))
 
 
@@ -34,10 +39,25 @@ def numbered(base, table, column, names):
     return ids
 
 
-def main(folder, path):
+def named(nova, path):
+    """Makes Nova's database. Each aggregate has other metadata too."""
+    base = sqlite3.connect(path)
+    base.executescript(NOVA_SCHEMA)
+    base.execute("INSERT INTO aggregates VALUES (1000, NULL, 'old')")
+    for row in rows(nova):
+        base.execute('INSERT INTO aggregates VALUES (?, ?, ?)', (row['id'], row['uuid'], row['name']))
+        base.executemany('INSERT INTO aggregate_metadata VALUES (NULL, ?, ?, ?)', [
+            (row['id'], key, value) for key, value in (('ssd', 'true'), ('availability_zone', row['zone'])) if value])
+    base.commit()
+    base.close()
+
+
+def main(folder, path, nova=''):
+    if nova:
+        named(nova, path + '.nova_api')
     base = sqlite3.connect(path)
     base.executescript(SCHEMA)
-    providers, inventories, usages, traits, aggregates = (rows(folder, name) for name in (
+    providers, inventories, usages, traits, aggregates = (rows(os.path.join(folder, name + '.csv')) for name in (
         'providers', 'inventories', 'usages', 'traits', 'aggregates'))
     ids = {row['uuid']: at for at, row in enumerate(providers, 1)}
     base.executemany('INSERT INTO resource_providers VALUES (?, ?, ?, ?, ?, ?)', [

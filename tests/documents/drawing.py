@@ -41,9 +41,9 @@ SHOWN = '<b>&amp; \\N "x" é</title><script>alert(1)</script>'
 
 
 @contextlib.contextmanager
-def folder_of(cloud, names=None):
-    """A folder with the five tables of a cloud in the notation, and with these names, by provider."""
-    made = {**HEADERS, **tables(cloud)}
+def folder_of(cloud, names=None, aggregates=None):
+    """A folder with the five tables of a cloud in the notation, and with these names, by provider, and rows of names of aggregates."""
+    made = {**HEADERS, **tables(cloud), **({'aggregate-names': full(f'uuid,name\n{aggregates}')} if aggregates else {})}
     if names:
         header, *rows = csv.reader(io.StringIO(made['providers']))
         with io.StringIO() as out:
@@ -385,6 +385,14 @@ def rows_chosen():
             if err or in_rows(svg) != wanted:
                 yield f'rows by {words}: {err}{in_rows(svg)}, and not {wanted}'
             yield from Picture(svg).wrong()
+    called = [['fit: 3 of 6'], ['lack units: 1 (slot 1: 1)'], ['lack room: 2 (slot 1: 2)'], ['az1', '1 of 2 fit', 'cmp-3', 'cmp-4'], ['az10', '1 of 2 fit', 'cmp-2', 'cmp-6'],
+              [full('A2'), '1 of 1 fit', 'cmp-1'], ['in no aggregate', '0 of 1 fit', 'cmp-5']]
+    one = [['fit: 1 of 2'], ['lack room: 1 (slot 1: 1)'], ['az1', '1 of 2 fit', 'cmp-3', 'cmp-4'], ['not shown: 4, in none of these aggregates (2 of 4 fit)']]
+    with folder_of(rows.replace('P1 | | | | A1', 'P1 | | | | A2'), aggregates='A1,az10\nA3,az1\nA1,room\n') as folder:
+        for words, wanted in ([], called), (['--by', 'az1'], one):
+            svg, err, _ = drawn('--hosts', '-', '--tables', folder, *words, given=given)
+            if err or in_rows(svg) != wanted:
+                yield f'rows with names, by {words}: {err}{in_rows(svg)}, and not {wanted}'
 
 
 def refused():
@@ -432,9 +440,9 @@ def refused():
                 (('--hosts', '-'), hosts_text([(other, '', 'perhaps', '', '')]), 1, strange + "line 2: fits is 'perhaps' and not yes or no\n"),
                 (('--hosts', '-', '--tables', os.path.join(folder, 'absent')), hosts_text([]), 1, 'aggregates.csv: No such file or directory\n'),
                 (('--hosts', '-', '--tables', folder, '--by=az1'), '', 2,
-                 "draw-cloud: --by: 'az1' isn't a UUID; give the UUIDs of aggregates between commas, each alone or as UUID=NAME\n"),
-                (('--hosts', '-', '--tables', folder, f'--by={other}=a, b'), '', 2, "draw-cloud: --by: ' b' isn't a UUID; give"),
-                (('--hosts', '-', '--tables', folder, f'--by={other},'), '', 2, "draw-cloud: --by: '' isn't a UUID; give"),
+                 "draw-cloud: --by: 'az1' isn't a UUID, nor the name of one aggregate; give some between commas, each alone or as UUID=NAME\n"),
+                (('--hosts', '-', '--tables', folder, f'--by={other}=a, b'), '', 2, "draw-cloud: --by: ' b' isn't a UUID, nor the name of one aggregate; give"),
+                (('--hosts', '-', '--tables', folder, f'--by={other},'), '', 2, "draw-cloud: --by: '' isn't a UUID, nor the name of one aggregate; give"),
                 (('--hosts', '-', f'--by={other}'), '', 2, 'the aggregates are missing: --tables, or --aggregates\n'),
                 (('--tables', folder, f'--by={other}'), '', 2, '--by needs --hosts\n'),
                 (('--hosts', '-'), hosts_text([(other, '', 'yes', '', '')]), 0, '')):

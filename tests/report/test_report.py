@@ -276,9 +276,11 @@ class Written(Checks):
 
     def test_zones(self):
         with made() as (folder, flavors), audited() as program:
-            page = self.page(folder, flavors, program, f'--zone={full("A1")}=<b>one', f'--zone={full("A2").upper()}', f'--zone={full("A9")}=nobody')
+            with open(os.path.join(folder, 'aggregate-names.csv'), 'w', encoding='utf-8') as file:
+                file.write(full('uuid,name\nA2,az2\nA9,az9\n'))
+            page = self.page(folder, flavors, program, f'--zone={full("A1")}=<b>one', '--zone=az2', '--zone=az9=nobody')
             part = page.read()['flavors'][2]
-            self.assertEqual(part['zones'], ['<b>one fits at 1 of 2 hosts', f'{full("A2")} fits at 2 of 3 hosts', 'nobody fits at 0 of 0 hosts',
+            self.assertEqual(part['zones'], ['<b>one fits at 1 of 2 hosts', 'az2 fits at 2 of 3 hosts', 'nobody fits at 0 of 0 hosts',
                                              'in no zone fits at 0 of 2 hosts'])
             labels = [[re.sub(' (fits|lacks)( .*)?$', '', title) for _, title in zone] for zone in part['squares']]
             self.assertEqual(labels, [[SCRIPT, QUOTED], [QUOTED, 'host-9', full('P3')], [], ['--><!--', 'host-10']])
@@ -295,7 +297,7 @@ class Written(Checks):
             self.refused('report: capacity: flavors: Unreadable\n', 4, folder, os.path.join(folder, 'absent.csv'), '--program', program)
             self.refused('report: capacity: flavors: record 1: MissingColumn\n', 4, folder, os.path.join(folder, 'usages.csv'), '--program', program)
             self.refused("report: no_such_program can't be run (No such file or directory)\n", 70, folder, flavors, '--program', 'no_such_program')
-            self.refused("invalid zone value: 'az1'", 2, folder, flavors, '--zone', 'az1')
+            self.refused("report: --zone: 'az1' isn't a UUID, nor the name of one aggregate\n", 2, folder, flavors, '--zone', 'az1')
             self.refused('required: DIR, FLAVORS', 2)
             for status in 2, 7:
                 with audited('first line\nsecond line\n', status) as failing:

@@ -3,6 +3,7 @@ from __future__ import annotations
 
 import csv
 import math
+import os
 import sys
 import uuid
 from dataclasses import dataclass, field
@@ -141,6 +142,21 @@ def members_of(path):
     for one, aggregate in rows(path, 'resource_provider', 'uuid'):
         found.setdefault(aggregate, set()).add(one)
     return found
+
+
+def names_of(folder):
+    """The UUIDs and names of aggregates that a folder's table has; none where there is no such table."""
+    path = folder and os.path.join(folder, 'aggregate-names.csv')
+    return [(one, name) for one, name in rows(path, 'uuid', 'name') if name] if path and os.path.exists(path) else []
+
+
+def aggregate_named(text, names):
+    """The aggregate of this UUID, else the only one of this name, or None."""
+    try:
+        return identity(text)
+    except ValueError:
+        found = {one for one, name in names if name == text}
+        return found.pop() if len(found) == 1 else None
 
 
 def named(cloud, text):

@@ -53,15 +53,18 @@ def hosts_of(path):
     return sorted((Host(*row) for row in rows(path, *COLUMNS, told="this isn't what ac_cli hosts writes: ")), key=order)
 
 
-def blocks_of(hosts, path):
-    """The roots of each aggregate, in the order of their UUIDs. A root in several aggregates stands in the first of them, and those in none come last."""
+def blocks_of(hosts, path, titles):
+    """The roots of each aggregate, under its title: those with one in the order of titles, then the others in that of UUIDs. A root in several aggregates
+    stands in the first of them, and those in none come last."""
+    def place(aggregate):
+        return not aggregate, aggregate not in titles, natural(titles.get(aggregate, '')), aggregate
     first = {}
     for one, aggregate in rows(path, 'resource_provider', 'uuid'):
-        first[one] = min(first.get(one, aggregate), aggregate)
+        first[one] = min(first.get(one, aggregate), aggregate, key=place)
     blocks = {}
     for host in hosts:
         blocks.setdefault(first.get(host.root, ''), []).append(host)
-    return sorted(blocks.items(), key=lambda block: (not block[0], block[0]))
+    return [(titles.get(aggregate, aggregate), blocks[aggregate]) for aggregate in sorted(blocks, key=place)]
 
 
 def blocks_by(hosts, path, asked):
