@@ -21,6 +21,7 @@ HERE = os.path.dirname(os.path.abspath(__file__))
 sys.path += [os.path.join(os.path.dirname(HERE), 'tools'), *(os.path.join(HERE, folder) for folder in ('documents', 'flavors', 'limits', 'release'))]
 
 from audits import drawn_audits
+from called import CMP, ZONES, beside, names_cases
 from cases import AUDIT_HEAD, CAPACITY_HEAD, CHILD, ODD_FLAVORS, ONE, PLANTED, SHARED, SMALL, SOME, TWO_FIT, TWO_SHORT, Case, cuts, full, lines, tables
 from changes import changes
 from cliffs import cliffs
@@ -437,10 +438,10 @@ DEVICES = [
 ]
 
 
-def growing(name, words, cloud='', given='', **more):
-    """A case in which each growth of this run is refused in turn, by tests/memory/growths.py."""
+def growing(name, words, cloud='', given='', folder=None, **more):
+    """A case in which each growth of this run is refused in turn, by tests/memory/growths.py. The tables are those of a folder, or each is named by itself."""
     return Case(f'each growth refused: {name}', ['sh', '-c', 'exec python3 -B tests/memory/growths.py "$@"', 'growths', PROGRAM, *map(full, words)],
-                SOME, tables={**(tables(cloud) if cloud else {}), **more}, given=full(given).encode())
+                SOME, tables=folder or {**(tables(cloud) if cloud else {}), **more}, together=folder is not None, given=full(given).encode())
 
 
 OTHERS = [f'--{name}={os.path.join(EXAMPLES, name)}.csv' for name in ('usages', 'traits', 'aggregates')]
@@ -465,6 +466,9 @@ GROWTHS = [
     growing('fill, in sum', ['fill', '--sum', DISK], SHARED),
     growing('hosts, in sum', ['hosts', '--sum', DISK], SHARED),
     growing('fill, no candidate', ['fill', FIVES], ONE),
+    growing('tokens by names', ['tokens', '--names', TWO + '&member_of=in:az1,az2', '--after', 'cmp-1'], folder=beside(CMP, ZONES)),
+    growing('fill by names', ['fill', '--names', TWO + '&in_tree=cmp-1'], folder=beside(CMP, ZONES)),
+    growing('verify, an unknown name', ['verify', '--names', '--detail', TWO + '&in_tree=cmp-1', 'cmp-3'], folder=beside(CMP, ZONES)),
     growing('verify', ['verify', FIVES, 'P1,P2'], CHILD),
     growing('verify, an unknown provider', ['verify', FIVES, 'P1,P7'], CHILD),
     growing('verify, in detail', ['verify', '--detail', FIVES, 'P1,P1'], CHILD),
@@ -707,7 +711,7 @@ def main(*given):
     chance = [*drawn(150), *drawn_audits(300), *drawn_tables(200), *drawn_queries(200)]
     linked = STATIC if os.path.isfile(os.path.join(ROOT, 'out', 'ac_cli.o')) and 'AC_CLI' not in os.environ else []
     cases = [PAGES, CRATES, DRAWING, *linked, *HELP, *WORDS, *FILES, *FOLDERS, *DRIVER, *REPORT, *DETAILS, *second_lines(), *PASTED, *DEVICES, *GROWTHS, *AS_METRICS, *FORMS_BY_HAND, *in_forms([*SMALL, *chance]), KNOWN, *REFUSALS, *SMALL, *pages, remade('examples/private/README.md'),
-             *rules, *examples(), *concerned(), *exports(), *database_exports(), *flavor_queries(), *sessions(PROGRAM), *compares(PROGRAM), *queries(), *changes(), *chance, *LARGE, *hostile(PROGRAM), *cliffs(PROGRAM), *tries(PROGRAM), FEW_BYTES, *cuts()]
+             *rules, *examples(), *concerned(), *exports(), *database_exports(), *flavor_queries(), *sessions(PROGRAM), *compares(PROGRAM), *queries(), *names_cases(PROGRAM), *changes(), *chance, *LARGE, *hostile(PROGRAM), *cliffs(PROGRAM), *tries(PROGRAM), FEW_BYTES, *cuts()]
     cases = [case for case in cases if all(word in case.name for word in words)]
     failed = 0
     with ThreadPoolExecutor(max_workers=2) as pool:

@@ -1,5 +1,5 @@
 -- Over words and files in memory the program leaves the answer to what they ask.
-use Rattle.std.proofs.Common.{◌≡◌, ◌∙◌, ℕ, zero, suc, ◌≤◌, ◌<◌, true, false, List, [], ◌∷◌, ◌++◌, Option, Some, None, length, ◌⊎◌, inl, inr, refl, sym, ap, subst, arith, append-nil, append_assoc}
+use Rattle.std.proofs.Common.{◌≡◌, ◌∙◌, if◌then◌else◌, Bool, ℕ, zero, suc, ◌≤◌, ◌<◌, true, false, List, [], ◌∷◌, ◌++◌, Option, Some, None, length, ◌⊎◌, inl, inr, refl, sym, ap, subst, arith, append-nil, append_assoc}
 use Rattle.std.proofs.lemmas.Bool.{cases_Bool}
 use Rattle.std.proofs.lemmas.Bool.Decides.{nat_tests}
 use Rattle.std.specs.Io.KnownBytes.{Appends, Keeps, append_known}
@@ -10,7 +10,7 @@ use Rattle.ac_session.specs.Sessions.{session_answer}
 use Rattle.std.specs.Prelude.{Contains, nat_le}
 use Rattle.ac_base.specs.Devices.{Rises}
 use Rattle.ac_run.specs.Answer.{Outcome, answer}
-use Rattle.std.specs.Option.{option_map}
+use Rattle.std.specs.Option.{option_map, unwrap_or}
 use Rattle.ac_run.specs.Feeds.{Bytes, FeedRose, RisesIn, TellBytes, is_long, is_long_there}
 use Rattle.ac_run.specs.Notes.{noted}
 use Rattle.ac_run.specs.Run.{FailsOr, IsAnswered, IsRefused}
@@ -25,8 +25,8 @@ use Rattle.ac_words.specs.declared.form.Form.{Form}
 use Rattle.ac_words.specs.Words.{IsMadeOf, Line, Says, faults, file_called, is_tabled, named, task_in}
 use Rattle.ac_cli.proofs.RanForms.{still}
 use Rattle.ac_cli.specs.Forms.{formed}
-use Rattle.ac_cli.specs.Files.{AreOpened, ExplainsUnread, HoldsChanges, HoldsFile, IsOpened}
-use Rattle.ac_cli.specs.InMemory.{AsksOver, Files, HoldsOver, SaysOver, held_by, HasFile, HasFiles, HasOwn, HasTables, bytes_at, file_bytes, left_by, needs}
+use Rattle.ac_cli.specs.Files.{AreOpened, ExplainsUnread, HoldsChanges, HoldsFile, HoldsNames, IsOpened, IsThere, missing_reason, names_header}
+use Rattle.ac_cli.specs.InMemory.{AsksOver, Files, HoldsOver, SaysOver, held_by, HasFile, HasFiles, HasOwn, HasTables, bytes_at, file_bytes, left_by, names_at, needs}
 use Rattle.ac_cli.specs.Program.{HeldSession, Unread, EndsForLine, EndsForWords, EndsGiven, EndsLine, EndsProgram, IsToldUnread, Ran, RanCall, RanHeaders, RanJob, Streams, detail_in, note_behind, path_beside}
 use Rattle.ac_cli.specs.declared.files.Beside.{Beside}
 use Rattle.ac_cli.specs.declared.files.Beside.TheVariants as beside
@@ -124,7 +124,9 @@ one_line name rows l m h k =
     ∙ ap (λ x. record l { call = m.call; version = m.version; tries = x }) (some_same (sym h.tries ∙ k.tries))
     ∙ ap (λ x. record l { call = m.call; version = m.version; tries = m.tries; form = x }) (some_same (sym h.form ∙ k.form))
     ∙ ap (λ x. record l { call = m.call; version = m.version; tries = m.tries; form = m.form; changes = x }) (sym h.changes ∙ k.changes)
-    ∙ ap (λ x. record l { call = m.call; version = m.version; tries = m.tries; form = m.form; changes = m.changes; detail = x }) (sym h.detail ∙ k.detail)
+    ∙ ap (λ x. record l { call = m.call; version = m.version; tries = m.tries; form = m.form; changes = m.changes; names = x }) (sym h.names ∙ k.names)
+    ∙ ap (λ x. record l { call = m.call; version = m.version; tries = m.tries; form = m.form; changes = m.changes; names = m.names; aggregate_names = x }) (sym h.aggregate_names ∙ k.aggregate_names)
+    ∙ ap (λ x. record m { detail = x; paths = l.paths }) (sym h.detail ∙ k.detail)
     ∙ ap (λ x. record m { paths = x }) (some_same (sym h.paths ∙ k.paths))
 
 pub same_said : (found : _) (l m : Line) → Says found l → Says found m → l ≡ m
@@ -138,7 +140,7 @@ abbrev Opens : Files → Text → MemFile → Type 0
 Opens files path file = bytes_at files path ≡ Some (file_bytes file)
 
 abbrev Refuses : Files → Text → Text → Type 0
-Refuses files path reason = bytes_at files path ≡ None
+Refuses files path reason = (bytes_at files path ≡ None) × (reason ≡ missing_reason)
 
 abbrev told : MemFile → Option (List ℕ)
 told file = Some (file_bytes file)
@@ -209,16 +211,10 @@ module _ (files : Files) where
   changes_held None (Some bytes) at has few is = absurd has
   changes_held (Some path) None at has few is = absurd has
 
-  beside_held : (line : Line) (b : Bytes) (file : List ℕ) (changes : Option (List ℕ)) → HasFiles files line b file changes
-      → (of : Beside) (at : Text) → path_beside line of ≡ Some at → IsHeld at
-  beside_held line b file changes has beside.Changes at is = changes_held line.changes changes at has.changed has.few_changes is
-  beside_held line b file changes has beside.Answer at is = own_held (file_called line.call) file at has.own has.few is
-  beside_held line b file changes has beside.Flavors at is = own_held (file_called line.call) file at has.own has.few is
-
   -- so it can be had, where memory suffices
   can_be_had : (at : Text) → IsHeld at → (why : FileUnread) → ExplainsUnread (Opens files) (Refuses files) told never at why
       → (of : Beside) (detail : Option Paths) (Told : List ℕ → Type 0) (given : ℕ) → IsToldUnread of detail at why Told given → given ≤ 6 → ⊥
-  can_be_had at held (unread.Unopened reason) because of detail Told given is few = let there = held.1 in absurd cc
+  can_be_had at held (unread.Unopened reason) because of detail Told given is few = let there = held.1 in let none = because.0 in absurd cc
   can_be_had at held unread.Failed because of detail Told given is few = still 0 0 refl refl because.3
   can_be_had at held unread.TooLarge because of detail Told given is few =
       let same : held.0 ≡ file_bytes because.0 = some_same (sym held.1 ∙ because.1) in
@@ -226,6 +222,40 @@ module _ (files : Files) where
       let short : is_long (file_bytes because.0) ≡ false = ap is_long (sym same) ∙ held.2 in
       absurd (grind (arith, nat_tests, many, short))
   can_be_had at held unread.NoMemory because of detail Told given is few = absurd (omega (arith, few, is.1))
+
+  -- a table of names is there, or it isn't, which is no fault
+  names_had : (bytes names : Option (List ℕ)) (at : Text) → bytes_at files at ≡ bytes → Some (unwrap_or bytes names_header) ≡ names → is_long_there names ≡ false
+      → (why : FileUnread) → IsThere why → ExplainsUnread (Opens files) (Refuses files) told never at why
+      → (of : Beside) (detail : Option Paths) (Told : List ℕ → Type 0) (given : ℕ) → IsToldUnread of detail at why Told given → given ≤ 6 → ⊥
+  names_had (Some bytes) names at is same few why there because of detail Told given told_so small =
+      can_be_had at (bytes, is, subst (λ n. is_long_there n ≡ false) (sym same) few) why because of detail Told given told_so small
+  names_had None names at is same few (unread.Unopened reason) there because of detail Told given told_so small = there because.1
+  names_had None names at is same few unread.Failed there because of detail Told given told_so small = still 0 0 refl refl because.3
+  names_had None names at is same few unread.TooLarge there because of detail Told given told_so small = let opened = because.1 in absurd cc
+  names_had None names at is same few unread.NoMemory there because of detail Told given told_so small = absurd (omega (arith, small, told_so.1))
+
+  names_there : (asked : Bool) (path names : Option (List ℕ)) (at : Text) → names_at files asked path ≡ names → is_long_there names ≡ false → (if asked then path else None) ≡ Some at
+      → (why : FileUnread) → IsThere why → ExplainsUnread (Opens files) (Refuses files) told never at why
+      → (of : Beside) (detail : Option Paths) (Told : List ℕ → Type 0) (given : ℕ) → IsToldUnread of detail at why Told given → given ≤ 6 → ⊥
+  names_there false path names at same few is = absurd cc
+  names_there true None names at same few is = absurd cc
+  names_there true (Some path) names at same few is =
+      let here : path ≡ at = some_same is in
+      names_had (bytes_at files at) names at refl (ap (λ p. Some (unwrap_or (bytes_at files p) names_header)) (sym here) ∙ same) few
+
+  -- nothing beside the tables is missing
+  beside_there : (line : Line) (b : Bytes) (file : List ℕ) (changes names : Option (List ℕ)) → HasFiles files line b file changes names
+      → (of : Beside) (at : Text) → path_beside line of ≡ Some at → (why : FileUnread) → (of ≡ beside.Names → IsThere why)
+      → ExplainsUnread (Opens files) (Refuses files) told never at why
+      → (detail : Option Paths) (Told : List ℕ → Type 0) (given : ℕ) → IsToldUnread of detail at why Told given → given ≤ 6 → ⊥
+  beside_there line b file changes names has beside.Changes at is why there because =
+      can_be_had at (changes_held line.changes changes at has.changed has.few_changes is) why because beside.Changes
+  beside_there line b file changes names has beside.Names at is why there because =
+      names_there line.names line.aggregate_names names at has.named has.few_names is why (there refl) because beside.Names
+  beside_there line b file changes names has beside.Answer at is why there because =
+      can_be_had at (own_held (file_called line.call) file at has.own has.few is) why because beside.Answer
+  beside_there line b file changes names has beside.Flavors at is why there because =
+      can_be_had at (own_held (file_called line.call) file at has.own has.few is) why because beside.Flavors
 
   -- and what was read is what is there
   same_own : (path : Option Text) (bytes read : List ℕ) → HasOwn files path bytes → HoldsFile (Opens files) told path read → read ≡ bytes
@@ -239,6 +269,15 @@ module _ (files : Files) where
   same_changes (Some path) (Some bytes) (Some read) has holds = ap Some (holds.all ∙ some_same (sym holds.opened ∙ has))
   same_changes None (Some bytes) read has holds = absurd has
   same_changes (Some path) None read has holds = absurd has
+
+  same_names : (asked : Bool) (path names read : Option (List ℕ)) → names_at files asked path ≡ names → HoldsNames (Opens files) (Refuses files) told asked path read → read ≡ names
+  same_names false path names None has holds = has
+  same_names false path names (Some read) has holds = absurd holds
+  same_names true None names None has holds = absurd holds
+  same_names true None names (Some read) has holds = ap Some holds ∙ has
+  same_names true (Some path) names None has holds = absurd holds
+  same_names true (Some path) names (Some read) has (inl holds) = ap Some holds.all ∙ sym (ap (λ o. Some (unwrap_or o names_header)) holds.opened) ∙ has
+  same_names true (Some path) names (Some read) has (inr missing) = ap Some missing.1 ∙ sym (ap (λ o. Some (unwrap_or o names_header)) missing.0.0) ∙ has
 
 -- ---- a session
 
@@ -295,7 +334,7 @@ module _ (questions : MemFile) (detail : Option Paths) (changes : Option (List �
 -- ---- the program
 
 module _ (questions : MemFile) (words : List Text) (files : Files) (s : Streams) (given : ℕ) (few : given ≤ 6) (b : Bytes) (over : SaysOver words files b)
-    (Done : Type 0) (call : Option Task) (is : task_in over.line over.file over.changes (detail_in over.line) ≡ call)
+    (Done : Type 0) (call : Option Task) (is : task_in over.line over.file over.changes over.names (detail_in over.line) ≡ call)
     (done : (from to : FiveTables MemFile) → TellBytes told from b → RanCall told never told never call over.line over.changes from to questions s given → Done) where
   abbrev own : Line
   own = over.line
@@ -303,29 +342,31 @@ module _ (questions : MemFile) (words : List Text) (files : Files) (s : Streams)
   abbrev Ran_so : Option Task → Option (List ℕ) → FiveTables MemFile → FiveTables MemFile → Type 0
   Ran_so task changes from to = RanCall told never told never task own changes from to questions s given
 
-  called : (file : List ℕ) (changes : Option (List ℕ)) (from to : FiveTables MemFile) → file ≡ over.file → changes ≡ over.changes → TellBytes told from b
-      → Ran_so (task_in own file changes (detail_in own)) changes from to → Done
-  called file changes from to f c tell ran =
+  called : (file : List ℕ) (changes names : Option (List ℕ)) (from to : FiveTables MemFile) → file ≡ over.file → changes ≡ over.changes → names ≡ over.names → TellBytes told from b
+      → Ran_so (task_in own file changes names (detail_in own)) changes from to → Done
+  called file changes names from to f c n tell ran =
       done from to tell (subst (λ (t : Option Task). Ran_so t over.changes from to) is
-      (subst (λ (x : Option (List ℕ)). Ran_so (task_in own over.file x (detail_in own)) x from to) c
-      (subst (λ (x : List ℕ). Ran_so (task_in own x changes (detail_in own)) changes from to) f ran)))
+      (subst (λ (x : Option (List ℕ)). Ran_so (task_in own over.file x over.names (detail_in own)) x from to) c
+      (subst (λ (x : Option (List ℕ)). Ran_so (task_in own over.file changes x (detail_in own)) changes from to) n
+      (subst (λ (x : List ℕ). Ran_so (task_in own x changes names (detail_in own)) changes from to) f ran))))
 
   over_headers : RanHeaders told never told never questions own s given → Done
   over_headers ran =
-      let none = subst (λ t. needs t (HasFiles files own b over.file over.changes) b over.file over.changes) ran.untabled over.there in
-      called [] None ran.from ran.to (sym none.1) (sym none.2) (subst (TellBytes told ran.from) (sym none.0) ran.tells) ran.ran
+      let none = subst (λ t. needs t (HasFiles files own b over.file over.changes over.names) b over.file over.changes over.names) ran.untabled over.there in
+      called [] None None ran.from ran.to (sym none.1) (sym none.2) (sym none.3) (subst (TellBytes told ran.from) (sym none.0) ran.tells) ran.ran
 
   over_files : is_tabled own.call ≡ true → EndsForLine (Opens files) (Refuses files) told never told never questions own s given → Done
   over_files tabled ends =
-      let has = subst (λ t. needs t (HasFiles files own b over.file over.changes) b over.file over.changes) tabled over.there in
+      let has = subst (λ t. needs t (HasFiles files own b over.file over.changes over.names) b over.file over.changes over.names) tabled over.there in
       elim ends [
-        | inl unopened ↦ absurd (all_there files own.paths b has.tables unopened.table unopened.path unopened.named unopened.refused)
+        | inl unopened ↦ absurd (all_there files own.paths b has.tables unopened.table unopened.path unopened.named unopened.refused.0)
         | inr rest ↦ elim rest [
-          | inl lacks ↦ absurd (can_be_had files lacks.path (beside_held files own b over.file over.changes has lacks.of lacks.path lacks.named) lacks.why lacks.because
-              lacks.of (detail_in own) _ given lacks.told few)
+          | inl lacks ↦ absurd (beside_there files own b over.file over.changes over.names has lacks.of lacks.path lacks.named lacks.why lacks.there lacks.because
+              (detail_in own) _ given lacks.told few)
           | inr opened ↦
-              called opened.file opened.changes opened.from opened.to (same_own files (file_called own.call) over.file opened.file has.own opened.held)
-              (same_changes files own.changes over.changes opened.changes has.changed opened.changed) (tells files own.paths b opened.from has.tables opened.files) opened.ran
+              called opened.file opened.changes opened.names opened.from opened.to (same_own files (file_called own.call) over.file opened.file has.own opened.held)
+              (same_changes files own.changes over.changes opened.changes has.changed opened.changed)
+              (same_names files own.names own.aggregate_names over.names opened.names has.named opened.named) (tells files own.paths b opened.from has.tables opened.files) opened.ran
         ]
       ]
 

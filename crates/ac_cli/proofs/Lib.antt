@@ -4,3 +4,4 @@ pub mod InMemory
 pub mod RanForms
 pub mod RanTasks
 pub mod RowsJson
+pub mod BesideTold

@@ -48,16 +48,16 @@ module _ {R : Type 0} (remaining : R → Option (List ℕ)) (from : FiveTables R
   }
 
 module _ {R Q : Type 0} (remaining : R → Option (List ℕ)) (failures : R → ℕ) (asked : Q → Option (List ℕ)) (fails : Q → ℕ) (line : Line)
-    (file : List ℕ) (changes : Option (List ℕ)) (from to : FiveTables R) (questions : Q) (s : Streams) (given : ℕ) where
+    (file : List ℕ) (changes names : Option (List ℕ)) (from to : FiveTables R) (questions : Q) (s : Streams) (given : ℕ) where
   abbrev Called : Option Task → Type 0
   Called task = RanCall remaining failures asked fails task line changes from to questions s given
 
-  pub ran_call : (form : Form) → form ≡ line.form → (task : Task) → Some task ≡ task_in line file changes (detail_in line) → RanJob remaining failures form task from to s given
-      → Called (task_in line file changes (detail_in line))
+  pub ran_call : (form : Form) → form ≡ line.form → (task : Task) → Some task ≡ task_in line file changes names (detail_in line) → RanJob remaining failures form task from to s given
+      → Called (task_in line file changes names (detail_in line))
   ran_call form same task is ran = subst Called is (subst (λ (f : Form). RanJob remaining failures f task from to s given) same ran)
 
-  pub held_call : (detail : Option Paths) (version : Version) (tries : Option ℕ) → None ≡ task_in line file changes (detail_in line) → detail ≡ detail_in line → version ≡ line.version → tries ≡ line.tries
-      → HeldSession remaining failures asked fails detail changes version tries from to questions s given → Called (task_in line file changes (detail_in line))
+  pub held_call : (detail : Option Paths) (version : Version) (tries : Option ℕ) → None ≡ task_in line file changes names (detail_in line) → detail ≡ detail_in line → version ≡ line.version → tries ≡ line.tries
+      → HeldSession remaining failures asked fails detail changes version tries from to questions s given → Called (task_in line file changes names (detail_in line))
   held_call detail version tries is same read bound held =
       subst Called is
       (subst (λ (d : Option Paths). HeldSession remaining failures asked fails d changes line.version line.tries from to questions s given) same

@@ -1,9 +1,11 @@
 -- The files of the tables: which was opened for which; and the bytes of the file that is read beside them.
-use Rattle.std.specs.Prelude.{◌≡◌, ⊤, List, [], ℕ, Option, Some, None}
+use Rattle.std.specs.Prelude.{◌≡◌, ◌⊎◌, ⊤, Bool, true, false, List, [], ℕ, codes, Option, Some, None}
 use Rattle.ac_base.specs.Devices.{Rises}
 use Rattle.ac_run.specs.Tasks.{Paths}
 use Rattle.ac_cli.specs.declared.files.FileUnread.{FileUnread}
 use Rattle.ac_cli.specs.declared.files.FileUnread.TheVariants as unread
+use Rattle.ac_cli.specs.declared.files.NamesTable.{NamesTable}
+use Rattle.ac_cli.specs.declared.files.NamesTable.TheVariants as table
 use Rattle.ac_tables.specs.Drain.{AllBytes, AreTooMany}
 use Rattle.ac_tables.specs.FiveTables.{table_in}
 use Rattle.ac_tables.specs.declared.fault.Table.{Table}
@@ -45,3 +47,32 @@ ExplainsUnread {R} opens refuses remaining failures path (unread.Unopened reason
 ExplainsUnread {R} opens refuses remaining failures path unread.Failed = (from : R) × (to : R) × opens path from × Rises (failures from) (failures to)
 ExplainsUnread {R} opens refuses remaining failures path unread.TooLarge = (from : R) × opens path from × AreTooMany (remaining from)
 ExplainsUnread {R} opens refuses remaining failures path unread.NoMemory = ⊤
+
+-- ---- the table of names of aggregates
+
+-- why a file can't be opened that isn't there
+unfoldable pub missing_reason : List ℕ
+missing_reason = codes "there is no such file"
+
+-- the header of the table
+unfoldable pub names_header : List ℕ
+names_header = codes "uuid,name\n"
+
+-- its text, where names stand in place of UUIDs: the header alone, where there is no file
+abbrev pub names_text : NamesTable → Option (List ℕ)
+names_text table.Unasked = None
+names_text table.Absent = Some names_header
+names_text (table.Read bytes) = Some bytes.items
+
+-- what was opened at its path gave all these bytes, or there is no such file; without a path it is the header alone, and where names aren't asked for there is none
+abbrev pub HoldsNames : {R : Type 0} → (List ℕ → R → Type 0) → (List ℕ → List ℕ → Type 0) → (R → Option (List ℕ)) → Bool → Option (List ℕ) → Option (List ℕ) → Type 0
+HoldsNames opens refuses remaining false path None = ⊤
+HoldsNames opens refuses remaining true None (Some bytes) = bytes ≡ names_header
+HoldsNames opens refuses remaining true (Some path) (Some bytes) =
+    Holds opens remaining path bytes ⊎ (refuses path missing_reason × (bytes ≡ names_header))
+HoldsNames opens refuses remaining _ _ _ = ⊥
+
+-- it isn't for want of the file that its bytes can't be had
+abbrev pub IsThere : FileUnread → Type 0
+IsThere (unread.Unopened reason) = reason.now ≡ missing_reason → ⊥
+IsThere _ = ⊤

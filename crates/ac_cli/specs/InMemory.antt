@@ -1,6 +1,6 @@
 -- What the program leaves over words and files in memory, whose bytes are known.
 use Rattle.std.specs.Prelude.{◌≡◌, ◌≤◌, ⊤, ℕ, Bool, true, false, List, [], ◌∷◌, ◌++◌, codes, length, map, find, Option, Some, None}
-use Rattle.std.specs.Option.{option_map}
+use Rattle.std.specs.Option.{option_and_then, option_map, unwrap_or}
 use Rattle.std.specs.Str.{bytes_eq}
 use denote.Ref.{Bor}
 use Rattle.clap.specs.Words.{Text}
@@ -13,6 +13,7 @@ use Rattle.ac_session.specs.Sessions.{session_answer}
 use Rattle.ac_words.specs.Words.{Line, Says, faults, file_called, is_tabled, named, paths_in, task_in}
 use Rattle.ac_words.specs.declared.form.Form.{Form}
 use Rattle.ac_words.specs.declared.form.Form.TheVariants.{Csv}
+use Rattle.ac_cli.specs.Files.{names_header}
 use Rattle.ac_cli.specs.Forms.{formed}
 use Rattle.ac_cli.specs.Program.{detail_in, header_bytes, note_behind}
 use Rattle.ac_cli.specs.declared.memory.Left.{Left}
@@ -48,18 +49,25 @@ pub record HasTables (files : Files) (paths : Paths) (b : Bytes) : Type 0 where
   pub traits : HasFile files paths.traits b.traits
   pub aggregates : HasFile files paths.aggregates b.aggregates
 
+-- the table of names of aggregates, where names are asked for: that at a path, where it is there; else the header alone
+abbrev pub names_at : Files → Bool → Option Text → Option (List ℕ)
+names_at files false path = None
+names_at files true path = Some (unwrap_or (option_and_then (bytes_at files) path) names_header)
+
 -- All files of a line are there, and those beside the tables have not too many bytes.
-pub record HasFiles (files : Files) (line : Line) (b : Bytes) (file : List ℕ) (changes : Option (List ℕ)) : Type 0 where
+pub record HasFiles (files : Files) (line : Line) (b : Bytes) (file : List ℕ) (changes : Option (List ℕ)) (names : Option (List ℕ)) : Type 0 where
   pub tables : HasTables files line.paths b
   pub own : HasOwn files (file_called line.call) file
   pub few : is_long file ≡ false
   pub changed : HasFile files line.changes changes
   pub few_changes : is_long_there changes ≡ false
+  pub named : names_at files line.names line.aggregate_names ≡ names
+  pub few_names : is_long_there names ≡ false
 
 -- what a line needs is there; what is about no tables needs nothing, and is done over their headers
-abbrev pub needs : Bool → Type 0 → Bytes → List ℕ → Option (List ℕ) → Type 0
-needs true Needed b file changes = Needed
-needs false Needed b file changes = (b ≡ header_bytes) × (file ≡ []) × (changes ≡ None)
+abbrev pub needs : Bool → Type 0 → Bytes → List ℕ → Option (List ℕ) → Option (List ℕ) → Type 0
+needs true Needed b file changes names = Needed
+needs false Needed b file changes names = (b ≡ header_bytes) × (file ≡ []) × (changes ≡ None) × (names ≡ None)
 
 -- Words say a line over tables of these bytes: they have no fault, and what the line needs is there.
 pub record SaysOver (words : List Text) (files : Files) (b : Bytes) : Type 0 where
@@ -69,18 +77,19 @@ pub record SaysOver (words : List Text) (files : Files) (b : Bytes) : Type 0 whe
   pub says : Says (named words) line
   pub file : List ℕ
   pub changes : Option (List ℕ)
-  pub there : needs (is_tabled line.call) (HasFiles files line b file changes) b file changes
+  pub names : Option (List ℕ)
+  pub there : needs (is_tabled line.call) (HasFiles files line b file changes names) b file changes names
 
 -- They ask for this task, its rows in this form.
 pub record AsksOver (words : List Text) (files : Files) (form : Form) (task : Task) (b : Bytes) : Type 0 where
   pub over : SaysOver words files b
   pub formed : over.line.form ≡ form
-  pub asks : task_in over.line over.file over.changes (detail_in over.line) ≡ Some task
+  pub asks : task_in over.line over.file over.changes over.names (detail_in over.line) ≡ Some task
 
 -- They ask for a session, whose searches have no bound.
 pub record HoldsOver (words : List Text) (files : Files) (b : Bytes) : Type 0 where
   pub over : SaysOver words files b
-  pub asks : task_in over.line over.file over.changes (detail_in over.line) ≡ None
+  pub asks : task_in over.line over.file over.changes over.names (detail_in over.line) ≡ None
   pub whole : over.line.tries ≡ None
 
 -- words that ask for the sizes of the tables in a folder, and their task
@@ -88,7 +97,7 @@ abbrev pub asks_sizes : List Text
 asks_sizes = codes "ac_cli" ∷ codes "check" ∷ codes "--tables" ∷ codes "cloud" ∷ []
 
 abbrev pub sizes_task : Task
-sizes_task = record { command = check; query = []; version = V136; tries = None; changes = None; detail = None }
+sizes_task = record { command = check; query = []; version = V136; tries = None; changes = None; names = None; detail = None }
 
 -- There are words that ask: these, where the tables of the folder are there.
 abbrev pub WordsAsk : Type 0

@@ -14,8 +14,9 @@ use Rattle.ac_run.specs.Answer.{Outcome, answer}
 use Rattle.ac_run.specs.Changing.{changes_large_line, changes_unread_line, world_in}
 use Rattle.ac_run.specs.Feeds.{Bytes, FeedRose, TellBytes}
 use Rattle.ac_run.specs.Flavors.{large_line, unread_line}
-use Rattle.ac_run.specs.Lines.{answer_line, memory_line, output_line, tries_line, unreadable_line}
+use Rattle.ac_run.specs.Lines.{answer_line, memory_line, names_line, output_line, tries_line, unreadable_line}
 use Rattle.ac_run.specs.declared.refusal.AnswerRefusal.TheVariants as answer
+use Rattle.ac_run.specs.declared.refusal.NamesRefusal.TheVariants as names
 use Rattle.ac_run.specs.Notes.{noted}
 use Rattle.ac_run.specs.Run.{FailsOr, IsAnswered, IsRefused, IsUnread}
 use Rattle.ac_base.specs.Writing.{TakesLine}
@@ -28,7 +29,7 @@ use Rattle.ac_session.specs.Tries.{AreStops}
 use Rattle.ac_session.specs.Turns.{lines_in}
 use Rattle.ac_tables.specs.declared.read.FiveTables.{FiveTables}
 use Rattle.ac_cli.specs.Forms.{formed}
-use Rattle.ac_cli.specs.Files.{AreOpened, ExplainsUnread, HoldsChanges, HoldsFile}
+use Rattle.ac_cli.specs.Files.{AreOpened, ExplainsUnread, HoldsChanges, HoldsFile, HoldsNames, IsThere}
 use Rattle.ac_cli.specs.declared.files.Beside.{Beside}
 use Rattle.ac_cli.specs.declared.files.Beside.TheVariants as beside
 use Rattle.ac_cli.specs.declared.files.FileUnread.{FileUnread}
@@ -190,16 +191,19 @@ abbrev pub unread_said : Beside → List ℕ
 unread_said beside.Answer = answer_line answer.Unreadable
 unread_said beside.Flavors = unread_line
 unread_said beside.Changes = changes_unread_line
+unread_said beside.Names = names_line names.Unreadable
 
 abbrev pub large_said : Beside → List ℕ
 large_said beside.Answer = answer_line answer.TooLarge
 large_said beside.Flavors = large_line
 large_said beside.Changes = changes_large_line
+large_said beside.Names = names_line names.TooLarge
 
 abbrev pub file_status : Beside → ℕ
 file_status beside.Answer = 5
 file_status beside.Flavors = 4
 file_status beside.Changes = 3
+file_status beside.Names = 3
 
 -- what is told of a file that can't be read; where more is told, with the reason, if one was given
 abbrev pub unread_told : Beside → Option Paths → Text → Option Text → List ℕ
@@ -218,19 +222,25 @@ IsToldUnread of detail path unread.NoMemory Told given = Told memory_line × (gi
 abbrev pub beside_called : Call → Beside
 beside_called call = if calls_answer call then beside.Answer else beside.Flavors
 
+-- the path of the table of names of aggregates, where a line asks for names and gives one
+abbrev pub names_path : Line → Option Text
+names_path line = if line.names then line.aggregate_names else None
+
 -- the path of a file that is read beside the tables, where a line gives one
 abbrev pub path_beside : Line → Beside → Option Text
 path_beside line beside.Changes = line.changes
+path_beside line beside.Names = names_path line
 path_beside line _ = file_called line.call
 
 -- The bytes of a file that is read beside the tables can't be had, which is told.
 pub record LacksFile {R : Type 0} (opens : List ℕ → R → Type 0) (refuses : List ℕ → List ℕ → Type 0) (remaining : R → Option (List ℕ)) (failures : R → ℕ)
     (line : Line) (s : Streams) (given : ℕ) : Type 0 where
   pub of : Beside
-  pub one : Contains (beside.Changes ∷ beside_called line.call ∷ []) of
+  pub one : Contains (beside.Changes ∷ beside.Names ∷ beside_called line.call ∷ []) of
   pub path : Text
   pub named : path_beside line of ≡ Some path
   pub why : FileUnread
+  pub there : of ≡ beside.Names → IsThere why
   pub because : ExplainsUnread opens refuses remaining failures path why
   pub told : IsToldUnread of (detail_in line) path why (IsLine s) given
   pub output : s.out_new ≡ s.out_old
@@ -252,10 +262,10 @@ pub record RanHeaders {R Q : Type 0} (remaining : R → Option (List ℕ)) (fail
   pub from : FiveTables R
   pub to : FiveTables R
   pub tells : TellBytes remaining from header_bytes
-  pub ran : RanCall remaining failures asked fails (task_in line [] None (detail_in line)) line None from to questions s given
+  pub ran : RanCall remaining failures asked fails (task_in line [] None None (detail_in line)) line None from to questions s given
 
 -- What a line calls for was done over what was opened at its paths.
-pub record RanOpened {R Q : Type 0} (opens : List ℕ → R → Type 0) (remaining : R → Option (List ℕ)) (failures : R → ℕ)
+pub record RanOpened {R Q : Type 0} (opens : List ℕ → R → Type 0) (refuses : List ℕ → List ℕ → Type 0) (remaining : R → Option (List ℕ)) (failures : R → ℕ)
     (asked : Q → Option (List ℕ)) (fails : Q → ℕ) (questions : Q) (line : Line) (s : Streams) (status : ℕ) : Type 0 where
   pub from : FiveTables R
   pub to : FiveTables R
@@ -264,13 +274,15 @@ pub record RanOpened {R Q : Type 0} (opens : List ℕ → R → Type 0) (remaini
   pub held : HoldsFile opens remaining (file_called line.call) file
   pub changes : Option (List ℕ)
   pub changed : HoldsChanges opens remaining line.changes changes
-  pub ran : RanCall remaining failures asked fails (task_in line file changes (detail_in line)) line changes from to questions s status
+  pub names : Option (List ℕ)
+  pub named : HoldsNames opens refuses remaining line.names line.aggregate_names names
+  pub ran : RanCall remaining failures asked fails (task_in line file changes names (detail_in line)) line changes from to questions s status
 
 abbrev pub EndsForLine : {R Q : Type 0} → (List ℕ → R → Type 0) → (List ℕ → List ℕ → Type 0) → (R → Option (List ℕ)) → (R → ℕ) → (Q → Option (List ℕ)) → (Q → ℕ)
     → Q → Line → Streams → ℕ → Type 0
 EndsForLine opens refuses remaining failures asked fails questions line s given =
     IsUnopened refuses line s given
-    ⊎ (LacksFile opens refuses remaining failures line s given ⊎ RanOpened opens remaining failures asked fails questions line s given)
+    ⊎ (LacksFile opens refuses remaining failures line s given ⊎ RanOpened opens refuses remaining failures asked fails questions line s given)
 
 -- how a line ends: over the headers of the tables, if what it calls for is about none; else over what is opened
 abbrev pub EndsLine : Type 0 → Type 0 → Line → Type 0
@@ -314,7 +326,7 @@ EndsForWords Ends words s given =
 
 -- the task and the tables of a call without words
 abbrev pub sample_task : Task
-sample_task = record { command = tokens None None; query = codes "resources=VCPU:2"; version = V136; tries = None; changes = None; detail = None }
+sample_task = record { command = tokens None None; query = codes "resources=VCPU:2"; version = V136; tries = None; changes = None; names = None; detail = None }
 
 unfoldable pub sample_bytes : Bytes
 sample_bytes = record {

@@ -1,6 +1,6 @@
 //! The files of the tables, and those that are read beside them.
 ghost use Rattle.std.specs.Prelude.{◌≡◌, IfErr, IfOk, Some, option_map};
-ghost use Rattle.ac_cli.specs.Files.{AreOpened, ExplainsUnread, Holds, IsOpened};
+ghost use Rattle.ac_cli.specs.Files.{AreOpened, ExplainsUnread, Holds, IsOpened, names_text};
 ghost use Rattle.ac_run.specs.Tasks.{paths_shown};
 ghost use Rattle.ac_tables.specs.FiveTables.{table_in};
 
@@ -79,6 +79,8 @@ pub enum Beside {
     Flavors,
     /// What is changed of the cloud.
     Changes,
+    /// The table of names of aggregates.
+    Names,
 }
 
 /// Why the bytes of a file can't be had.
@@ -92,6 +94,31 @@ pub enum FileUnread {
     TooLarge,
     /// A growth was refused.
     NoMemory,
+}
+
+/// The table of names of aggregates.
+#[derive(Debug, Drop)]
+pub enum NamesTable {
+    /// Names don't stand in place of UUIDs.
+    Unasked,
+    /// There is no such file.
+    Absent,
+    /// These are its bytes.
+    Read(Vec<u8>),
+}
+
+impl NamesTable {
+    /// Its text, where names stand in place of UUIDs: the header alone, where there is no file.
+    #[tactic(auto, unfolding(crate::specs::Files::names_header))]
+    pub fn text(&self) -> Option<&[u8]>
+        ensures { option_map (λ t. t.now) result ≡ names_text self.now }
+    {
+        match self {
+            NamesTable::Unasked => None,
+            NamesTable::Absent => Some(b"uuid,name\n"),
+            NamesTable::Read(bytes) => Some(bytes.as_slice()),
+        }
+    }
 }
 
 /// The bytes of the file at a path.

@@ -4,6 +4,7 @@ ghost use Rattle.std.specs.Str.{bytes_eq};
 ghost use Rattle.ac_base.specs.Devices.{PullGives, PushTakes, breaks_after_pull, breaks_after_push, failures_after_pull, failures_after_push};
 ghost use Rattle.ac_run.specs.Feeds.{Bytes};
 ghost use Rattle.ac_run.specs.Tasks.{Task};
+ghost use Rattle.ac_cli.specs.Files.{missing_reason};
 ghost use Rattle.ac_cli.specs.InMemory.{AsksOver, HoldsOver, IsLeft, WordsAsk, bytes_at, file_bytes, files_shown, held_by, left_by, words_shown};
 ghost use Rattle.ac_session.specs.Lines.{most_passed};
 ghost use Rattle.ac_words.specs.declared.form.Form.{Form};
@@ -160,12 +161,14 @@ impl<'a> Host for MemHost<'a> {
     ghost opens = { λ host path file.
         bytes_at (files_shown host.files.now) path ≡ Some (file_bytes file) };
 
-    ghost refuses = { λ host path _. bytes_at (files_shown host.files.now) path ≡ None };
+    ghost refuses = { λ host path reason. (bytes_at (files_shown host.files.now) path ≡ None)
+        × (reason ≡ missing_reason) };
 
     fn words(&self) -> Result<Vec<String>, Unworded> {
         written_out(self.alloc, self.words)
     }
 
+    #[tactic(auto, unfolding(crate::specs::Files::missing_reason))]
     fn open(&self, path: &str) -> Result<MemFile<'a>, &'static str> {
         match find_file(self.files, path) {
             Some(file) => Ok(MemFile::new(file.1)),

@@ -7,13 +7,13 @@ ghost use Rattle.ac_run.specs.Feeds.{Bytes, TellBytes};
 ghost use Rattle.ac_run.specs.Lines.{memory_line};
 ghost use Rattle.ac_run.specs.Notes.{noted};
 ghost use Rattle.ac_run.specs.Tasks.{changes_shown, command_shown, detail_shown, paths_shown, task_of};
-ghost use Rattle.ac_cli.specs.Program.{beside_called, EndsForLine, EndsForWords, EndsLine, EndsProgram, HeldSession, IsShown, IsToldUnopened, IsToldUnread, RanCall, RanHeaders, RanJob, RanSample, RanTask, detail_in, file_status, large_said, note_behind, seen, unread_said, unread_told};
+ghost use Rattle.ac_cli.specs.Program.{beside_called, EndsForLine, EndsForWords, EndsLine, EndsProgram, HeldSession, IsShown, IsToldUnopened, IsToldUnread, RanCall, RanHeaders, RanJob, RanSample, RanTask, detail_in, file_status, large_said, names_path, note_behind, seen, unread_said, unread_told};
 ghost use Rattle.ac_run.specs.Refusals.{line_of, status_of};
 ghost use Rattle.ac_words.specs.declared.form.Form.TheVariants.{Csv};
-ghost use Rattle.ac_cli.specs.Files.{ExplainsUnread, HoldsChanges, HoldsFile};
+ghost use Rattle.ac_cli.specs.Files.{ExplainsUnread, HoldsChanges, HoldsFile, HoldsNames, IsThere, names_text};
 ghost use Rattle.ac_words.specs.Words.{file_called, is_tabled, task_in};
 
-use crate::files::{Beside, FileUnread, Unopened, opened_inputs, read_file};
+use crate::files::{Beside, FileUnread, NamesTable, Unopened, opened_inputs, read_file};
 use crate::forms::in_form;
 use crate::host::{Host, Unworded};
 use crate::memory::{MemFile, Written};
@@ -22,8 +22,8 @@ use ac_base::{Feed, Gathering, NoMemory, Sink, push_all};
 use ac_query::Version;
 use ac_remedies::unread_remedy;
 use ac_run::{
-    AnswerRefusal, AskRefusal, ChangesRefusal, Command, FlavorsRefusal, Inputs, Job, Paths,
-    Refusal, Refused, TablesRefusal, run, tell,
+    AnswerRefusal, AskRefusal, ChangesRefusal, Command, FlavorsRefusal, Inputs, Job, NamesRefusal,
+    Paths, Refusal, Refused, TablesRefusal, run, tell,
 };
 use ac_session::{Lines, run_session};
 use ac_words::{Form, WordFault, Words, read_words};
@@ -222,6 +222,7 @@ fn unreadable(of: Beside) -> Refusal
         Beside::Answer => Refusal::Asked(AskRefusal::Answer(AnswerRefusal::Unreadable)),
         Beside::Flavors => Refusal::Asked(AskRefusal::Flavors(FlavorsRefusal::Unreadable)),
         Beside::Changes => Refusal::Tables(TablesRefusal::Changes(ChangesRefusal::Unreadable)),
+        Beside::Names => Refusal::Names(NamesRefusal::Unreadable),
     }
 }
 
@@ -234,6 +235,7 @@ fn too_large(of: Beside) -> Refusal
         Beside::Answer => Refusal::Asked(AskRefusal::Answer(AnswerRefusal::TooLarge)),
         Beside::Flavors => Refusal::Asked(AskRefusal::Flavors(FlavorsRefusal::TooLarge)),
         Beside::Changes => Refusal::Tables(TablesRefusal::Changes(ChangesRefusal::TooLarge)),
+        Beside::Names => Refusal::Names(NamesRefusal::TooLarge),
     }
 }
 
@@ -322,6 +324,32 @@ fn changes_of<'a, H: Host>(
     }
 }
 
+// The table of names of aggregates, where the words ask for names; else its path, and why its bytes can't be had.
+#[tactic(auto, unfolding(crate::specs::Files::missing_reason))]
+fn names_of<'a, H: Host>(
+    alloc: Global,
+    host: &H,
+    words: &'a Words,
+) -> Result<NamesTable, (&'a str, FileUnread)>
+    ensures held { IfOk result (λ table. HoldsNames (H.opens host.now) (H.refuses host.now)
+        H.File.remaining words.now.names words.now.aggregate_names (names_text table)) }
+    ensures fault { IfErr result (λ lack. (names_path words.now ≡ Some lack.0.now)
+        × IsThere lack.1 × ExplainsUnread (H.opens host.now) (H.refuses host.now)
+        H.File.remaining H.File.failures lack.0.now lack.1) }
+{
+    if !words.names() {
+        return Ok(NamesTable::Unasked);
+    }
+    let Some(path) = words.aggregate_names() else {
+        return Ok(NamesTable::Absent);
+    };
+    match read_file(alloc, host, path) {
+        Ok(bytes) => Ok(NamesTable::Read(bytes)),
+        Err(FileUnread::Unopened("there is no such file")) => Ok(NamesTable::Absent),
+        Err(unread) => Err((path, unread)),
+    }
+}
+
 // Which file the words ask for beside the tables, where they ask for one.
 fn beside_of(words: &Words) -> Beside
     ensures { result ≡ beside_called words.now.call }
@@ -341,25 +369,27 @@ fn detail_of<'a>(words: &Words, paths: &'a Paths<'a>) -> Option<&'a Paths<'a>>
     if words.detail() { Some(paths) } else { None }
 }
 
-// Does what accepted words ask for, over the feeds of their tables, the bytes of the file that is read beside them, and the changes.
+// Does what accepted words ask for, over the feeds of their tables, the bytes of the file that is read beside them, the changes, and the table of names.
 fn answer_opened<F: Feed, Q: Feed + Drop, W: Sink + Drop, E: Sink>(
     alloc: Global,
     words: &Words,
     file: &[u8],
     changes: Option<&[u8]>,
+    names: Option<&[u8]>,
     inputs: &mut Inputs<F>,
     questions: Q,
     out: W,
     err: &mut E,
 ) -> (u8, W)
     ensures { RanCall F.remaining F.failures Q.remaining Q.failures
-        (task_in words.now file.now (changes_shown changes.entry) (detail_in words.now)) words.now
+        (task_in words.now file.now (changes_shown changes.entry) (changes_shown names.entry)
+        (detail_in words.now)) words.now
         (changes_shown changes.entry) inputs.old inputs.new questions
         (seen W.taken W.failures E.taken E.failures out result.1 err.old err.new) result.0 }
 {
     let paths = words.paths();
     let detail = detail_of(words, &paths);
-    match words.job(file, changes, detail) {
+    match words.job(file, changes, names, detail) {
         Some(job) => ran_job(alloc, words.form(), &job, inputs, out, err),
         None => held(
             alloc,
@@ -404,6 +434,15 @@ fn answer_tabled<H: Host + AllocGlobal, Q: Feed + Drop, W: Sink + Drop, E: Sink>
             );
         }
     };
+    let names = match names_of(alloc, host, words) {
+        Ok(names) => names,
+        Err((path, unread)) => {
+            return (
+                tell_unread(alloc, Beside::Names, detail, path, unread, err),
+                out,
+            );
+        }
+    };
     let file = match file_of(alloc, host, words) {
         Ok(file) => file,
         Err((path, unread)) => {
@@ -418,6 +457,7 @@ fn answer_tabled<H: Host + AllocGlobal, Q: Feed + Drop, W: Sink + Drop, E: Sink>
         words,
         &file,
         changes.as_deref(),
+        names.text(),
         &mut inputs,
         questions,
         out,
@@ -439,7 +479,17 @@ fn answer_headers<Q: Feed + Drop, W: Sink + Drop, E: Sink>(
         (seen W.taken W.failures E.taken E.failures out result.1 err.old err.new) result.0 }
 {
     let mut inputs = sample::headers();
-    answer_opened(alloc, words, &[], None, &mut inputs, questions, out, err)
+    answer_opened(
+        alloc,
+        words,
+        &[],
+        None,
+        None,
+        &mut inputs,
+        questions,
+        out,
+        err,
+    )
 }
 
 // Does what accepted words ask for.

@@ -37,6 +37,7 @@ pub fn job() -> Job<'static>
         version: Version::V136,
         tries: None,
         changes: None,
+        names: None,
         detail: None,
     }
 }

@@ -1,5 +1,5 @@
 -- One placement more, and how placements end.
-use Rattle.std.proofs.Common.{◌≡◌, ◌∙◌, ◌<◌, ◌≤◌, ◌+◌, ℕ, zero, suc, true, false, List, [], ◌∷◌, ◌++◌, length, min, Option, Result, Ok, Err, refl, sym, ap, subst, arith, inl, inr, append-nil, slice_index, slice_index_or}
+use Rattle.std.proofs.Common.{Bool, ◌≡◌, ◌∙◌, ◌<◌, ◌≤◌, ◌+◌, ℕ, zero, suc, true, false, List, [], ◌∷◌, ◌++◌, length, min, Option, Result, Ok, Err, refl, sym, ap, subst, arith, inl, inr, append-nil, slice_index, slice_index_or}
 use Rattle.std.specs.Prelude.{⊤}
 use Rattle.std.specs.Result.{IsErrAnd}
 use Rattle.std.proofs.lemmas.Bool.{cases_lt, false_from_ne_true, false≢true}
@@ -12,7 +12,7 @@ use Rattle.ac_cloud.proofs.InOrder.{entries_rise}
 use Rattle.ac_query.specs.Asked.{Asked, Slot, slots_of}
 use Rattle.ac_query.specs.Shown.Queries.{asked_of}
 use Rattle.ac_report.specs.Outcomes.{WritesEach}
-use Rattle.ac_report.specs.Texts.{line}
+use Rattle.ac_report.specs.Called.{line_by}
 use Rattle.ac_report.specs.declared.fault.PageFault.{PageFault}
 use Rattle.ac_report.specs.declared.fault.PageFault.TheVariants as fault
 use Rattle.ac_report.proofs.Pages.Writing.{halted, refused, stopped, wrote_none, wrote_on}
@@ -110,43 +110,43 @@ is_step cloud asked old new list of below h kept fit same more = record {
 
 -- ---- ends
 
-module _ {W : Type 0} {taken : W → Option (List ℕ)} {fails : W → ℕ} (all : List Provider) (asked : Asked) where
+module _ {W : Type 0} {taken : W → Option (List ℕ)} {fails : W → ℕ} {named : Bool} (all : List Provider) (asked : Asked) where
   pub ends_none : (s : Stand) (f : Filled) (a : W) → placements_at asked s ≡ [] → f.count ≡ s.count → s.count ≤ 4294967295
-      → with_taken f.takings all ≡ s.world → IsTakenOf all f.takings → Ends taken fails all asked s a a (Ok f)
+      → with_taken f.takings all ≡ s.world → IsTakenOf all f.takings → Ends taken fails named all asked s a a (Ok f)
   ends_none s f a none count small world fits = record {
-    writes = wrote_none (line all) (placements_at asked s) a f none;
+    writes = wrote_none (line_by named all) (placements_at asked s) a f none;
     count = rw none (omega (arith, count, small));
     world = rw none world;
     fits = fits;
   }
 
-  pub ends_refused : (s : Stand) (a : W) → Ends taken fails all asked s a a (Err fault.NoMemory)
-  ends_refused s a = record { writes = refused _ (line all) (placements_at asked s) a (Err fault.NoMemory) refl; count = tt; world = tt; fits = tt }
+  pub ends_refused : (s : Stand) (a : W) → Ends taken fails named all asked s a a (Err fault.NoMemory)
+  ends_refused s a = record { writes = refused _ (line_by named all) (placements_at asked s) a (Err fault.NoMemory) refl; count = tt; world = tt; fits = tt }
 
   -- nothing more is written where the search stops
-  pub ends_halted : (s : Stand) (a : W) → Ends taken fails all asked s a a (Err fault.TooManyTries)
-  ends_halted s a = record { writes = halted _ (line all) (placements_at asked s) a (Err fault.TooManyTries) refl tt; count = tt; world = tt; fits = tt }
+  pub ends_halted : (s : Stand) (a : W) → Ends taken fails named all asked s a a (Err fault.TooManyTries)
+  ends_halted s a = record { writes = halted _ (line_by named all) (placements_at asked s) a (Err fault.TooManyTries) refl tt; count = tt; world = tt; fits = tt }
 
   module _ (s next : Stand) (t : List ℕ) (first : placements_at asked s ≡ t ∷ placements_at asked next) {a b : W} where
-    pub ends_stopped : {Z : Type 0} {e : PageFault} → WritesEach {X = Z} taken fails ⊥ a b (Err e) (line all) (t ∷ []) → Ends taken fails all asked s a b (Err e)
-    ends_stopped wrote = record { writes = rw first (stopped (line all) (t ∷ []) (placements_at asked next) wrote (λ _. tt) refl); count = tt; world = tt; fits = tt }
+    pub ends_stopped : {Z : Type 0} {e : PageFault} → WritesEach {X = Z} taken fails ⊥ a b (Err e) (line_by named all) (t ∷ []) → Ends taken fails named all asked s a b (Err e)
+    ends_stopped wrote = record { writes = rw first (stopped (line_by named all) (t ∷ []) (placements_at asked next) wrote (λ _. tt) refl); count = tt; world = tt; fits = tt }
 
     -- a placement is made, and then the others are
     pub ends_on : {Z : Type 0} {z : Z} → next.count ≡ min (s.count + 1) 4294967295 → next.world ≡ claimed s.world (assigned asked t)
-        → WritesEach taken fails ⊥ a b (Ok z) (line all) (t ∷ []) → (r : Result Filled PageFault) (c : W) → Ends taken fails all asked next b c r → Ends taken fails all asked s a c r
+        → WritesEach taken fails ⊥ a b (Ok z) (line_by named all) (t ∷ []) → (r : Result Filled PageFault) (c : W) → Ends taken fails named all asked next b c r → Ends taken fails named all asked s a c r
     ends_on count world wrote r c then = record {
-      writes = rw first (wrote_on (line all) (t ∷ []) wrote then.writes);
+      writes = rw first (wrote_on (line_by named all) (t ∷ []) wrote then.writes);
       count = rw first (IfOk-weaker r _ _ (λ x e. omega (arith, e, count)) then.count);
       world = IfOk-weaker r _ _ (λ x w. w ∙ (ap (λ (v : List Provider). after v asked (placements_at asked next)) world ∙ sym (ap (λ (l : List (List ℕ)). after s.world asked l) first))) then.world;
       fits = then.fits;
     }
 
   -- an error that is handed on
-  pub ends_err : {s : Stand} {r : Result Filled PageFault} {e : PageFault} {a b : W} → IsErrAnd r (λ d. d ≡ e) → Ends taken fails all asked s a b (Err e)
-      → Ends taken fails all asked s a b r
+  pub ends_err : {s : Stand} {r : Result Filled PageFault} {e : PageFault} {a b : W} → IsErrAnd r (λ d. d ≡ e) → Ends taken fails named all asked s a b (Err e)
+      → Ends taken fails named all asked s a b r
   ends_err {r = r} h ends = let is = err_from_is_err_and r h in rw (is.1, is.2) ends
 
   -- an error within the placements of a list
   pub places_err : {s : Stand} (then : Stand) (rest : List (List ℕ)) {r : Result ⊤ PageFault} {e : PageFault} {a b : W} → IsErrAnd r (λ d. d ≡ e)
-      → Ends taken fails all asked s a b (Err e) → PlacesAll taken fails all asked s then rest a b r
+      → Ends taken fails named all asked s a b (Err e) → PlacesAll taken fails named all asked s then rest a b r
   places_err then rest {r = r} h ends = let is = err_from_is_err_and r h in rw (is.1, is.2) record { ahead = tt; goes = tt; stops = ends }

@@ -1,11 +1,11 @@
 -- Private: how far placements have come, and how they end.
-use Rattle.std.specs.Prelude.{◌≡◌, ◌+◌, ◌-◌, ℕ, List, Option, Some, None, Result, Err, OnOk, IfOk, IfErr, length, min, false, ⊤}
+use Rattle.std.specs.Prelude.{Bool, ◌≡◌, ◌+◌, ◌-◌, ℕ, List, Option, Some, None, Result, Err, OnOk, IfOk, IfErr, length, min, false, ⊤}
 use Rattle.std.specs.Option.{option_map}
 use Rattle.std.specs.List.{filter}
 use Rattle.ac_cloud.specs.World.{Provider}
 use Rattle.ac_query.specs.Asked.{Asked}
 use Rattle.ac_report.specs.Outcomes.{WritesEach}
-use Rattle.ac_report.specs.Texts.{line}
+use Rattle.ac_report.specs.Called.{line_by}
 use Rattle.ac_report.specs.declared.fault.PageFault.{PageFault}
 use Rattle.ac_rules.specs.Judge.{is_candidate}
 use Rattle.ac_rules.specs.Pages.{candidates}
@@ -53,20 +53,20 @@ stand_of all f = record { wanted = f.wanted; world = world_at all f; count = cou
 abbrev pub IsFull : List Provider → Filling → Type 0
 IsFull all f = sums (world_at all f) (assigned (asked_in (takings_of f)) f.full.items) ≡ false
 
--- The placements that are to come are written, counted and taken.
-pub record Ends {W : Type 0} (taken : W → Option (List ℕ)) (fails : W → ℕ) (all : List Provider) (asked : Asked) (s : Stand) (old new : W)
+-- The placements that are to come are written, by UUIDs or by names, counted and taken.
+pub record Ends {W : Type 0} (taken : W → Option (List ℕ)) (fails : W → ℕ) (named : Bool) (all : List Provider) (asked : Asked) (s : Stand) (old new : W)
     (result : Result Filled PageFault) : Type 0 where
-  pub writes : WritesEach taken fails ⊤ old new result (line all) (placements_at asked s)
+  pub writes : WritesEach taken fails ⊤ old new result (line_by named all) (placements_at asked s)
   pub count : IfOk result (λ f. f.count ≡ min (length (placements_at asked s) + s.count) 4294967295)
   pub world : IfOk result (λ f. with_taken f.takings all ≡ after s.world asked (placements_at asked s))
   pub fits : IfOk result (λ f. IsTakenOf all f.takings)
 
 -- All placements of a list are made that are wanted: what ends well behind them ends well.
-pub record PlacesAll {W : Type 0} (taken : W → Option (List ℕ)) (fails : W → ℕ) (all : List Provider) (asked : Asked) (s then : Stand)
+pub record PlacesAll {W : Type 0} (taken : W → Option (List ℕ)) (fails : W → ℕ) (named : Bool) (all : List Provider) (asked : Asked) (s then : Stand)
     (rest : List (List ℕ)) (old new : W) (result : Result ⊤ PageFault) : Type 0 where
   pub ahead : OnOk result ((then.wanted ≡ Some 0 → ⊥) → AreAhead then.world asked rest)
-  pub goes : OnOk result ((r : Result Filled PageFault) (end : W) → Ends taken fails all asked then new end r → Ends taken fails all asked s old end r)
-  pub stops : IfErr result (λ e. Ends taken fails all asked s old new (Err e))
+  pub goes : OnOk result ((r : Result Filled PageFault) (end : W) → Ends taken fails named all asked then new end r → Ends taken fails named all asked s old end r)
+  pub stops : IfErr result (λ e. Ends taken fails named all asked s old new (Err e))
 
 -- ---- what is counted alone
 

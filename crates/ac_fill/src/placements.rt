@@ -1,11 +1,11 @@
-//! Placements as lines: the token of each.
+//! Placements as lines: the token of each, or its names.
 
-ghost use Rattle.std.specs.Prelude.{◌≡◌, ◌≢◌, ◌≤◌, ◌⊎◌, ◌∷◌, ℕ, List, IfOk, OnOk, Some, Err, true, false, length, min};
+ghost use Rattle.std.specs.Prelude.{◌≡◌, ◌≢◌, ◌≤◌, ◌⊎◌, ◌∷◌, ℕ, List, IfOk, IfSome, OnOk, Some, Err, true, false, is_some, length, min};
 ghost use Rattle.ac_cloud.specs.Cloud.CloudWorld.{providers_of};
 ghost use Rattle.ac_query.specs.Shown.Queries.{asked_of};
 ghost use Rattle.ac_report.specs.Outcomes.{WritesEach};
 ghost use Rattle.ac_report.specs.Pages.{IsAssignment};
-ghost use Rattle.ac_report.specs.Texts.{line};
+ghost use Rattle.ac_report.specs.Called.{AreCalled, line_by, providers_called};
 ghost use Rattle.ac_report.specs.declared.fault.PageFault.TheVariants as fault;
 ghost use Rattle.ac_rules.specs.Judge.{is_candidate};
 ghost use Rattle.ac_rules.specs.Pages.{candidates};
@@ -19,8 +19,8 @@ use crate::takings::Takings;
 use ac_base::{NoMemory, Sink};
 use ac_cloud::Cloud;
 use ac_query::Query;
-use ac_report::PageFault;
-use ac_report::lines::{is_over, one_less, push_piece, put_line};
+use ac_report::lines::{is_over, one_less, push_piece, put_line_by};
+use ac_report::{Names, PageFault};
 use ac_rules::{Assignment, Source};
 use std::alloc::{AllocError, Global};
 
@@ -104,10 +104,14 @@ impl<'a> Filling<'a> {
     // Writes a line for each placement of a list that there is room for, and that is wanted. It keeps a front of the list that has no room then.
     fn place<W: Sink>(
         &mut self,
+        alloc: Global,
         text: &mut Vec<u8>,
+        names: Option<&Names<'_>>,
         assignment: &Assignment<'_>,
         out: &mut W,
     ) -> Result<(), PageFault>
+        requires names { IfSome names (λ names. AreCalled
+            (providers_called (providers_of assignment.now.cloud.now)) names.now) }
         requires query { asked_of assignment.now.query.now ≡ asked_in (takings_of self.old) }
         requires list { IsAssignment (providers_of assignment.now.cloud.now)
             (asked_in (takings_of self.old)) assignment.now.list.now }
@@ -122,8 +126,8 @@ impl<'a> Filling<'a> {
         ensures places { (rest : List (List ℕ))
             → AreAhead (world_at (providers_of assignment.now.cloud.now) self.old)
             (asked_in (takings_of self.old)) (assignment.now.list.now ∷ rest)
-            → PlacesAll W.taken W.failures (providers_of assignment.now.cloud.now)
-            (asked_in (takings_of self.old))
+            → PlacesAll W.taken W.failures (is_some names.entry)
+            (providers_of assignment.now.cloud.now) (asked_in (takings_of self.old))
             (stand_of (providers_of assignment.now.cloud.now) self.old)
             (stand_of (providers_of assignment.now.cloud.now) self.new) rest out.old out.new
             result }
@@ -132,7 +136,7 @@ impl<'a> Filling<'a> {
         ensures untried { result ≢ Err fault.TooManyTries }
     {
         'room: while self.wants(assignment) {
-            put_line(text, assignment.cloud, assignment.list)?;
+            put_line_by(alloc, text, assignment.cloud, names, assignment.list)?;
             push_piece(out, text)?;
             self.filled.takings.take(assignment.list);
             self.filled.count = self.filled.count.saturating_add(1);
@@ -147,15 +151,19 @@ impl<'a> Filling<'a> {
 fn write_placements<'a, S: Source, W: Sink>(
     alloc: Global,
     cloud: &Cloud,
+    names: Option<&Names<'_>>,
     query: &'a Query,
     source: &mut S,
     out: &mut W,
 ) -> Result<Filled<'a>, PageFault>
+    requires names { IfSome names (λ names.
+        AreCalled (providers_called (providers_of cloud.now)) names.now) }
     requires whole { S.left source.old
         ≡ candidates (providers_of cloud.now) (asked_of query.now) }
     requires asks { asks_units (asked_of query.now) ≡ true }
-    ensures ends { Ends W.taken W.failures (providers_of cloud.now) (asked_of query.now)
-        (start_of (asked_of query.now).limit (providers_of cloud.now)) out.old out.new result }
+    ensures ends { Ends W.taken W.failures (is_some names.entry) (providers_of cloud.now)
+        (asked_of query.now) (start_of (asked_of query.now).limit (providers_of cloud.now))
+        out.old out.new result }
     ensures stopped { result ≡ Err fault.TooManyTries → S.may_stop source.old }
 {
     let mut filling = Filling::begin(alloc, cloud, query, query.limit())?;
@@ -165,7 +173,7 @@ fn write_placements<'a, S: Source, W: Sink>(
             None => return Ok(filling.filled),
             Some(list) => {
                 let assignment = Assignment { cloud, query, list };
-                filling.place(&mut text, &assignment, out)?;
+                filling.place(alloc, &mut text, names, &assignment, out)?;
                 source.skip(&filling.full);
             }
         }
@@ -174,20 +182,23 @@ fn write_placements<'a, S: Source, W: Sink>(
 }
 
 /// Places a query again and again, each time at the first candidate that the placements before it left, until there is none, or as often as the
-/// query's limit says. It writes the token of each placement as a line, in one pass of a source of all candidates. It answers how many
+/// query's limit says. It writes each placement as a line, of UUIDs or by names, in one pass of a source of all candidates. It answers how many
 /// placements there were, and what they took.
 pub fn write_filled<'a, S: Source, W: Sink>(
     alloc: Global,
     cloud: &Cloud,
+    names: Option<&Names<'_>>,
     query: &'a Query,
     source: &mut S,
     out: &mut W,
 ) -> Result<Filled<'a>, PageFault>
+    requires names { IfSome names (λ names.
+        AreCalled (providers_called (providers_of cloud.now)) names.now) }
     requires whole { S.left source.old
         ≡ candidates (providers_of cloud.now) (asked_of query.now) }
     requires asks { asks_units (asked_of query.now) ≡ true }
     ensures writes { WritesEach W.taken W.failures (S.may_stop source.old) out.old out.new result
-        (line (providers_of cloud.now))
+        (line_by (is_some names.entry) (providers_of cloud.now))
         (filled (asked_of query.now).limit (providers_of cloud.now) (asked_of query.now)) }
     ensures count { IfOk result (λ f. f.count ≡ min (length
         (filled (asked_of query.now).limit (providers_of cloud.now) (asked_of query.now)))
@@ -197,5 +208,5 @@ pub fn write_filled<'a, S: Source, W: Sink>(
         (filled (asked_of query.now).limit (providers_of cloud.now) (asked_of query.now))) }
     ensures fits { IfOk result (λ f. IsTakenOf (providers_of cloud.now) f.takings) }
 {
-    write_placements(alloc, cloud, query, source, out)
+    write_placements(alloc, cloud, names, query, source, out)
 }

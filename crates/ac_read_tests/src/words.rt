@@ -19,7 +19,7 @@ fn words_of(alloc: Global, line: &str) -> Result<Vec<String>, AllocError> {
 
 // Whether words ask for this job.
 fn asks(words: &Words<'_>, command: Command<'_>, query: &str, version: Version) -> bool {
-    match words.job(b"", None, None) {
+    match words.job(b"", None, None, None) {
         Some(job) => job.command == command && job.query == query && job.version == version,
         None => false,
     }

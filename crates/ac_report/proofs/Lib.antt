@@ -7,3 +7,4 @@ pub mod Differing
 pub mod Assigning
 pub mod NameBytes
 pub mod FoundTexts
+pub mod OneCalled

@@ -9,3 +9,4 @@ pub mod Outcomes
 pub mod Names
 pub mod ListRows
 pub mod Findings
+pub mod Called

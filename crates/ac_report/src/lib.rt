@@ -4,17 +4,20 @@
 #![tactic(auto)]
 
 mod amounts;
+pub mod called;
 pub mod fault;
 pub mod findings;
 mod ids;
 pub mod laws;
 pub mod lines;
 pub mod list_rows;
+pub mod named;
 pub mod names;
 pub mod page;
 pub mod request;
 pub mod summary;
 
+pub use called::{NameFault, Names};
 pub use fault::PageFault;
 pub use lines::write_tokens;
 pub use list_rows::write_list;

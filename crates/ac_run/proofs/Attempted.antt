@@ -2,7 +2,7 @@
 use Rattle.std.proofs.Common.{◌≡◌, ◌∙◌, ℕ, ◌≤◌, Bool, true, false, List, [], ◌∷◌, ◌++◌, Option, Some, None, ◌⊎◌, inl, inr, refl, sym, ap, subst, arith, append-nil}
 use Rattle.std.proofs.lemmas.Bool.Decides.{nat_tests}
 use Rattle.std.specs.Global.{Vec}
-use Rattle.std.specs.Prelude.{Contains, is_some, nat_lt, if◌then◌else◌, IfOk, Result, Ok, Err}
+use Rattle.std.specs.Prelude.{Contains, nat_lt, if◌then◌else◌, IfOk, Result, Ok, Err}
 use Rattle.ac_base.specs.Devices.{TakesPart}
 use Rattle.ac_cloud.specs.Cloud.Hosts.{host_of}
 use Rattle.ac_cloud.specs.World.{Provider, World}
@@ -12,16 +12,21 @@ use Rattle.ac_query.specs.Laws.Gathered.{asked_by}
 use Rattle.ac_query.specs.Pairs.{pairs_of}
 use Rattle.ac_query.specs.declared.version.Version.{Version}
 use Rattle.ac_change.specs.declared.fault.ChangeKind.{ChangeKind}
-use Rattle.ac_run.specs.Answer.{Outcome, answer, answer_by, answer_in, answer_within, change_refused, past_query, past_tables, past_token, refused, said_by, size_refused, table_refused, with_detail}
+use Rattle.ac_run.specs.Answer.{Manner, Outcome, answer, answer_by, answer_in, answer_named, answer_within, change_refused, manner_of, past_query, past_tables, past_token, refused, said_by, size_refused, table_refused, with_detail}
 use Rattle.ac_run.specs.Changing.{change_fault, changed_by}
-use Rattle.ac_run.specs.Details.{asked_remedy, asked_text, asks_text, behind, changes_remedy, text_asked, fault_remedy, reading_remedy}
+use Rattle.ac_run.specs.Details.{asked_remedy, asked_text, asks_text, behind, changes_remedy, text_asked, fault_remedy, names_remedy, reading_remedy}
 use Rattle.ac_run.specs.Feeds.Draining.{ExplainsReading}
 use Rattle.ac_run.specs.Feeds.{Bytes, TellBytes, too_large}
 use Rattle.ac_run.specs.Wanted.Given.{tables_in, token_refusal}
 use Rattle.ac_run.specs.Comparing.{answer_refused}
-use Rattle.ac_run.specs.Lines.{answer_line, host_line, memory_line}
-use Rattle.ac_run.specs.Refusals.{IsRefusalWith, line_of, line_of_asked, line_of_tables, line_told, status_of, status_of_asked, status_of_tables, status_told}
-use Rattle.ac_run.specs.Run.{Explains, ExplainsChanges, ExplainsTables, IsStated, IsWritten}
+use Rattle.ac_run.specs.Lines.{answer_line, host_line, memory_line, names_line}
+use Rattle.ac_run.specs.Naming.{ExplainsNames, TellsNames, names_refused, query_asked, task_asked, task_told, task_with_ids}
+use Rattle.ac_run.specs.Wanted.Named.{Naming}
+use Rattle.ac_report.specs.Called.{Called, providers_called}
+use Rattle.ac_tables.specs.Called.{called_said}
+use Rattle.ac_tables.specs.Tables.Rows.{records_of}
+use Rattle.ac_run.specs.Refusals.{IsNamesRefused, IsRefusalWith, line_of, line_of_asked, line_of_tables, line_told, status_of, status_of_asked, status_of_names, status_of_tables, status_told}
+use Rattle.ac_run.specs.Run.{BreaksOff, Ends, EndsIn, Explains, ExplainsChanges, ExplainsTables, IsRefusedSo, IsStated, IsWritten}
 use Rattle.ac_run.specs.Tasks.{Command, Paths, Task, check, candidates, tokens, list, fill, verify, explain, hosts, why, capacity, compare, audit, host_in, token_in}
 use Rattle.ac_run.specs.Tasks as command
 use Rattle.ac_run.specs.declared.refusal.AnswerRefusal.{AnswerRefusal}
@@ -29,6 +34,8 @@ use Rattle.ac_run.specs.Wanted.{AsksOne, ExplainsWanted}
 use Rattle.ac_run.specs.declared.refusal.AskRefusal.{AskRefusal}
 use Rattle.ac_run.specs.declared.refusal.AskRefusal.TheVariants as ask
 use Rattle.ac_run.specs.declared.refusal.ChangesRefusal.TheVariants as changes
+use Rattle.ac_run.specs.declared.refusal.NamesRefusal.{NamesRefusal}
+use Rattle.ac_run.specs.declared.refusal.NamesRefusal.TheVariants as names
 use Rattle.ac_run.specs.declared.refusal.Refusal.{Refusal}
 use Rattle.ac_run.specs.declared.refusal.Refusal.TheVariants as whole
 use Rattle.ac_run.specs.declared.refusal.Refused.{Refused}
@@ -186,46 +193,46 @@ module _ (text : List ℕ) (o said : Outcome) (old new : Option (List ℕ)) wher
 -- ---- what a task asks of a world
 
 -- but for `check`, `capacity`, `audit` and the parameters a command asks for a query
-pub asks_query : (command : Command) (detail : Bool) (version : Version) (query : List ℕ) (world : World) → AsksOne command
-    → answer_by command detail version query world ≡ past_query (said_by command detail world) (token_in command) version query
-asks_query check detail version query world other = absurd other
-asks_query (capacity flavors metrics) detail version query world other = absurd other
-asks_query (audit _) detail version query world other = absurd other
-asks_query command.parameters detail version query world other = absurd other
-asks_query (candidates after at traits) detail version query world other = refl
-asks_query (tokens after at) detail version query world other = refl
-asks_query (list after at traits) detail version query world other = refl
-asks_query (fill sum) detail version query world other = refl
-asks_query (verify token) detail version query world other = refl
-asks_query explain detail version query world other = refl
-asks_query (hosts sum within) detail version query world other = refl
-asks_query (why host) detail version query world other = refl
-asks_query (compare answer) detail version query world other = refl
-asks_query command.reading detail version query world other = refl
+pub asks_query : (command : Command) (manner : Manner) (version : Version) (query : List ℕ) (world : World) → AsksOne command
+    → answer_by command manner version query world ≡ past_query (said_by command manner world) (token_in command) version query
+asks_query check manner version query world other = absurd other
+asks_query (capacity flavors metrics) manner version query world other = absurd other
+asks_query (audit _) manner version query world other = absurd other
+asks_query command.parameters manner version query world other = absurd other
+asks_query (candidates after at traits) manner version query world other = refl
+asks_query (tokens after at) manner version query world other = refl
+asks_query (list after at traits) manner version query world other = refl
+asks_query (fill sum) manner version query world other = refl
+asks_query (verify token) manner version query world other = refl
+asks_query explain manner version query world other = refl
+asks_query (hosts sum within) manner version query world other = refl
+asks_query (why host) manner version query world other = refl
+asks_query (compare answer) manner version query world other = refl
+asks_query command.reading manner version query world other = refl
 
 -- a host that names no provider is told behind the query and the token
-pub host_refused : (command : Command) (detail : Bool) (world : World) (asked : Asked) (host : List ℕ) (f : HostFault) → host_in command ≡ Some host
+pub host_refused : (command : Command) (manner : Manner) (world : World) (asked : Asked) (host : List ℕ) (f : HostFault) → host_in command ≡ Some host
     → token_refusal asked (token_in command) ≡ None → host_of world.providers host ≡ Err f
-    → past_token (said_by command detail world) (token_in command) asked ≡ refused (host_line f) 5
-host_refused (candidates after at traits) detail world asked host f is fine unknown = rw (fine, is, unknown) refl
-host_refused (tokens after at) detail world asked host f is fine unknown = rw (fine, is, unknown) refl
-host_refused (list after at traits) detail world asked host f is fine unknown = rw (fine, is, unknown) refl
-host_refused (why own) detail world asked host f is fine unknown = let same : own ≡ host = cc in rw (same, unknown) refl
-host_refused check detail world asked host f is fine unknown = absurd (cc)
-host_refused (fill sum) detail world asked host f is fine unknown = absurd (cc)
-host_refused (verify token) detail world asked host f is fine unknown = absurd (cc)
-host_refused explain detail world asked host f is fine unknown = absurd (cc)
-host_refused (hosts sum within) detail world asked host f is fine unknown = absurd (cc)
-host_refused (capacity flavors metrics) detail world asked host f is fine unknown = absurd (cc)
-host_refused (compare answer) detail world asked host f is fine unknown = absurd (cc)
-host_refused (audit _) detail world asked host f is fine unknown = absurd (cc)
-host_refused command.reading detail world asked host f is fine unknown = absurd (cc)
-host_refused command.parameters detail world asked host f is fine unknown = absurd (cc)
+    → past_token (said_by command manner world) (token_in command) asked ≡ refused (host_line f) 5
+host_refused (candidates after at traits) manner world asked host f is fine unknown = rw (fine, is, unknown) refl
+host_refused (tokens after at) manner world asked host f is fine unknown = rw (fine, is, unknown) refl
+host_refused (list after at traits) manner world asked host f is fine unknown = rw (fine, is, unknown) refl
+host_refused (why own) manner world asked host f is fine unknown = let same : own ≡ host = cc in rw (same, unknown) refl
+host_refused check manner world asked host f is fine unknown = absurd (cc)
+host_refused (fill sum) manner world asked host f is fine unknown = absurd (cc)
+host_refused (verify token) manner world asked host f is fine unknown = absurd (cc)
+host_refused explain manner world asked host f is fine unknown = absurd (cc)
+host_refused (hosts sum within) manner world asked host f is fine unknown = absurd (cc)
+host_refused (capacity flavors metrics) manner world asked host f is fine unknown = absurd (cc)
+host_refused (compare answer) manner world asked host f is fine unknown = absurd (cc)
+host_refused (audit _) manner world asked host f is fine unknown = absurd (cc)
+host_refused command.reading manner world asked host f is fine unknown = absurd (cc)
+host_refused command.parameters manner world asked host f is fine unknown = absurd (cc)
 
 -- and so is an answer that can't be compared
-pub answer_refused_so : (answer : List ℕ) (detail : Bool) (world : World) (asked : Asked) (f : AnswerRefusal) → answer_refused answer ≡ Some f
-    → past_token (said_by (compare answer) detail world) None asked ≡ refused (answer_line f) 5
-answer_refused_so answer detail world asked f is = rw is refl
+pub answer_refused_so : (answer : List ℕ) (manner : Manner) (world : World) (asked : Asked) (f : AnswerRefusal) → answer_refused answer ≡ Some f
+    → past_token (said_by (compare answer) manner world) None asked ≡ refused (answer_line f) 5
+answer_refused_so answer manner world asked f is = rw is refl
 
 -- and what is to be done says so
 asks_text_of : (command : Command) (all : List Provider) (task : Task) → AsksOne command → text_asked command all task ≡ asks_text all task
@@ -264,7 +271,7 @@ module _ (task : Task) (world : World) where
       (asks_query task.command _ task.version task.query world h.0 ∙ rw (h.1, h.2) refl) (asks_text_of task.command world.providers task h.0 ∙ rw (h.1, h.2) refl)
   asked_said (ask.Host f) h some =
       refused_in (line_of_asked (ask.Host f)) (asked_remedy task (ask.Host f)) 5 (omega arith)
-      (asks_query task.command _ task.version task.query world h.0 ∙ rw h.1 (host_refused task.command (is_some task.detail) world (asked_by task.version (pairs_of task.query)) h.2.0 f h.2.1 h.2.2 h.2.3))
+      (asks_query task.command _ task.version task.query world h.0 ∙ rw h.1 (host_refused task.command (manner_of task) world (asked_by task.version (pairs_of task.query)) h.2.0 f h.2.1 h.2.2 h.2.3))
       (asks_text_of task.command world.providers task h.0 ∙ rw (h.1, h.2.2, h.2.1, h.2.3) refl)
   asked_said (ask.Flavors f) h some =
       refused_in (line_of_asked (ask.Flavors f)) (asked_remedy task (ask.Flavors f)) 4 (omega arith) (rw (h.2, h.3) refl) (rw (h.2, h.3) refl)
@@ -273,38 +280,127 @@ module _ (task : Task) (world : World) where
       (asks_query task.command _ task.version task.query world h.0 ∙ rw (h.1, h.2.1, h.2.2) refl)
       (asks_text_of task.command world.providers task h.0 ∙ rw (h.1, h.2.1, h.2.2) refl)
 
-  module _ {R : Type 0} (remaining : R → Option (List ℕ)) (failures : R → ℕ) (from to : FiveTables R) (stated : (b : Bytes) → TellBytes remaining from b → IsStated task.changes b world) where
-    abbrev IsWhyAsked : List ℕ → ℕ → Type 0
-    IsWhyAsked line status = Explains remaining failures task.detail (answer task) from to line status
+  abbrev IsWhyAsked : List ℕ → ℕ → Type 0
+  IsWhyAsked line status = IsRefusedSo (answer_within task world) line status
 
-    pub in_answer : (b : Bytes) → TellBytes remaining from b → answer task b ≡ answer_within task world
-    unfolding answer
-    in_answer b tell = in_world task.detail task.changes b (answer_within task) world (stated b tell)
+  this_very : (refusal : AskRefusal) → ExplainsWanted task world refusal → (refusal ≡ ask.NoMemory → ⊥) → 3 ≤ status_of_asked refusal → status_of_asked refusal ≤ 5
+      → IsWhyAsked (line_of_asked refusal ++ behind task.detail (λ _. asked_remedy task refusal)) (status_of_asked refusal)
+  this_very r h some low high = inl (low, high, asked_said r h some)
 
-    this_very : (refusal : AskRefusal) → ExplainsWanted task world refusal → (refusal ≡ ask.NoMemory → ⊥) → 3 ≤ status_of_asked refusal → status_of_asked refusal ≤ 5
-        → IsWhyAsked (line_of_asked refusal ++ behind task.detail (λ _. asked_remedy task refusal)) (status_of_asked refusal)
-    this_very r h some low high = inr (inl (low, high, λ b tell. in_answer b tell ∙ asked_said r h some))
+  asked : (refusal : AskRefusal) → ExplainsWanted task world refusal
+      → IsWhyAsked (line_of_asked refusal ++ behind task.detail (λ _. asked_remedy task refusal)) (status_of_asked refusal)
+  asked ask.NoMemory h = inr (ap (λ l. memory_line ++ l) (nothing_behind task.detail) ∙ append-nil memory_line, refl)
+  asked (ask.Query f) h = this_very (ask.Query f) h (λ e. cc) (omega arith) (omega arith)
+  asked (ask.Token f) h = this_very (ask.Token f) h (λ e. cc) (omega arith) (omega arith)
+  asked (ask.Host f) h = this_very (ask.Host f) h (λ e. cc) (omega arith) (omega arith)
+  asked (ask.Flavors f) h = this_very (ask.Flavors f) h (λ e. cc) (omega arith) (omega arith)
+  asked (ask.Answer f) h = this_very (ask.Answer f) h (λ e. cc) (omega arith) (omega arith)
 
-    asked : (refusal : AskRefusal) → ExplainsWanted task world refusal
-        → IsWhyAsked (line_of_asked refusal ++ behind task.detail (λ _. asked_remedy task refusal)) (status_of_asked refusal)
-    asked ask.NoMemory h = inr (inr (ap (λ l. memory_line ++ l) (nothing_behind task.detail) ∙ append-nil memory_line, refl))
-    asked (ask.Query f) h = this_very (ask.Query f) h (λ e. cc) (omega arith) (omega arith)
-    asked (ask.Token f) h = this_very (ask.Token f) h (λ e. cc) (omega arith) (omega arith)
-    asked (ask.Host f) h = this_very (ask.Host f) h (λ e. cc) (omega arith) (omega arith)
-    asked (ask.Flavors f) h = this_very (ask.Flavors f) h (λ e. cc) (omega arith) (omega arith)
-    asked (ask.Answer f) h = this_very (ask.Answer f) h (λ e. cc) (omega arith) (omega arith)
+  pub asked_told : {F : Type 0} (refusal : AskRefusal) (text : Result (Vec ℕ) F) (told : Refused) → ExplainsWanted task world refusal
+      → IfOk text (λ t. t.items ≡ behind task.detail (λ _. asked_remedy task refusal)) → IsRefusalWith (whole.Asked refusal) text told
+      → IsWhyAsked (line_told told) (status_told told)
+  asked_told r text told h said is = elim (tells (whole.Asked r) text told (behind task.detail (λ _. asked_remedy task r)) is said) [
+    | inl this ↦ rw (this.0, this.1) (asked r h)
+    | inr last ↦ inr last
+  ]
 
-    pub asked_told : {F : Type 0} (refusal : AskRefusal) (text : Result (Vec ℕ) F) (told : Refused) → ExplainsWanted task world refusal
-        → IfOk text (λ t. t.items ≡ behind task.detail (λ _. asked_remedy task refusal)) → IsRefusalWith (whole.Asked refusal) text told
-        → IsWhyAsked (line_told told) (status_told told)
-    asked_told r text told h said is = elim (tells (whole.Asked r) text told (behind task.detail (λ _. asked_remedy task r)) is said) [
-      | inl this ↦ rw (this.0, this.1) (asked r h)
-      | inr last ↦ inr (inr last)
-    ]
+-- what is said of the bytes of tables that state a world
+pub in_answer : (task : Task) (world : World) (b : Bytes) → IsStated task.changes b world → answer task b ≡ answer_named task world
+unfolding answer
+in_answer task world b stated = in_world task.detail task.changes b (answer_named task) world stated
 
 -- what explains what is said past the tables explains the answer
 pub as_answer : (task : Task) {R : Type 0} (remaining : R → Option (List ℕ)) (failures : R → ℕ) (from to : FiveTables R) (line : List ℕ) (status : ℕ)
-    → Explains remaining failures task.detail (λ b. past_tables task.detail task.changes b (answer_within task)) from to line status
+    → Explains remaining failures task.detail (λ b. past_tables task.detail task.changes b (answer_named task)) from to line status
     → Explains remaining failures task.detail (answer task) from to line status
 unfolding answer
 as_answer task remaining failures from to line status because = because
+
+-- ---- names
+
+-- names that are refused are told so
+pub names_told : {F : Type 0} (detail : Option Paths) (refusal : NamesRefusal) (text : Result (Vec ℕ) F) (told : Refused)
+    → IfOk text (λ t. t.items ≡ behind detail (λ _. names_remedy refusal)) → IsRefusalWith (whole.Names refusal) text told → IsNamesRefused detail refusal told
+names_told detail refusal text told said is = tells (whole.Names refusal) text told (behind detail (λ _. names_remedy refusal)) is said
+
+module _ (task : Task) (world : World) where
+  -- and that is what is said
+  names_said : (refusal : NamesRefusal) → 3 ≤ status_of_names refusal → status_of_names refusal ≤ 5 → task_asked task world ≡ Err refusal
+      → IsRefusedSo (answer_named task world) (names_line refusal ++ behind task.detail (λ _. names_remedy refusal)) (status_of_names refusal)
+  names_said refusal low high is = inl (low, high, rw is refl)
+
+  names_why : (refusal : NamesRefusal) → TellsNames (task_asked task world) refusal
+      → IsRefusedSo (answer_named task world) (names_line refusal ++ behind task.detail (λ _. names_remedy refusal)) (status_of_names refusal)
+  unfolding names_line names_remedy
+  names_why names.Unreadable is = names_said names.Unreadable (omega arith) (omega arith) is
+  names_why names.TooLarge is = names_said names.TooLarge (omega arith) (omega arith) is
+  names_why (names.Record row kind) is = names_said (names.Record row kind) (omega arith) (omega arith) is
+  names_why (names.Pair n f) is = names_said (names.Pair n f) (omega arith) (omega arith) is
+  names_why (names.Token f) is = names_said (names.Token f) (omega arith) (omega arith) is
+  names_why names.NoMemory is = inr (ap (λ l. memory_line ++ l) (nothing_behind task.detail) ∙ append-nil memory_line, refl)
+
+  pub names_so : (refusal : NamesRefusal) (told : Refused) → TellsNames (task_asked task world) refusal → IsNamesRefused task.detail refusal told
+      → IsRefusedSo (answer_named task world) (line_told told) (status_told told)
+  names_so refusal told h is = elim is [
+    | inl this ↦ rw (this.0, this.1) (names_why refusal h)
+    | inr last ↦ inr last
+  ]
+
+  -- a table that is refused
+  pub table_told : (table : List ℕ) (refusal : NamesRefusal) → task.names ≡ Some table → ExplainsNames (names_refused table) refusal → TellsNames (task_asked task world) refusal
+  table_told table names.NoMemory named h = tt
+  table_told table names.Unreadable named h = rw (named, h) refl
+  table_told table names.TooLarge named h = rw (named, h) refl
+  table_told table (names.Record row kind) named h = rw (named, h) refl
+  table_told table (names.Pair n f) named h = rw (named, h) refl
+  table_told table (names.Token f) named h = rw (named, h) refl
+
+  -- one that isn't, and says this
+  pub asked_is : (table : List ℕ) (called : Called) → task.names ≡ Some table → names_refused table ≡ None → called ≡ called_said (records_of table)
+      → task_asked task world ≡ task_with_ids (record { providers = providers_called world.providers; aggregates = called }) task
+  asked_is table called named fine is = rw (named, fine, is) refl
+
+module _ (task : Task) (world : World) (asked : Task) (is : task_asked task world ≡ Ok asked) where
+  -- the answer is that to the task with UUIDs
+  pub answer_asked : answer_named task world ≡ answer_within asked world
+  answer_asked = rw is refl
+
+  pub told_asked : task_told task world ≡ asked
+  told_asked = rw is refl
+
+-- where no name stands in place of a UUID
+pub asked_none : (task : Task) (world : World) → task.names ≡ None → task_asked task world ≡ Ok task
+asked_none task world none = rw none refl
+
+-- a name of the query stands for nothing
+pub query_told : (naming : Naming) (task : Task) (why : NamesRefusal) → TellsNames (query_asked naming task.query) why → TellsNames (task_with_ids naming task) why
+query_told naming task names.NoMemory h = tt
+query_told naming task names.Unreadable h = rw h refl
+query_told naming task names.TooLarge h = rw h refl
+query_told naming task (names.Record row kind) h = rw h refl
+query_told naming task (names.Pair n f) h = rw h refl
+query_told naming task (names.Token f) h = rw h refl
+
+-- ---- an answer over a world
+
+-- how it ends is how the run over bytes that state the world ends
+pub ends_over : {R : Type 0} (remaining : R → Option (List ℕ)) (failures : R → ℕ) (detail : Option Paths) (said : Bytes → Outcome) (may : Bytes → Type 0) (from to : FiveTables R)
+    (line : List ℕ) (status : ℕ) (Untouched : Type 0) (old new : Option (List ℕ)) (before after : ℕ) (outcome : Outcome) (stops : Type 0)
+    → ((b : Bytes) → TellBytes remaining from b → said b ≡ outcome) → ((b : Bytes) → TellBytes remaining from b → stops → may b)
+    → EndsIn outcome stops line status Untouched old new before after → Ends remaining failures detail said may from to line status Untouched old new before after
+ends_over remaining failures detail said may from to line status Untouched old new before after outcome stops is so ends = elim ends [
+  | inl whole ↦ elim whole.1 [
+    | inl this ↦ inl (whole.0, inr (inl (this.0, this.1, λ b tell. is b tell ∙ this.2)))
+    | inr last ↦ inl (whole.0, inr (inr last))
+  ]
+  | inr broke ↦ inr (breaks broke.0, λ b tell. subst (TakesPart old new) (sym (ap (λ o. o.output) (is b tell))) broke.1)
+]
+  where
+    breaks : BreaksOff stops line status before after → BreaksOff ((b : Bytes) → TellBytes remaining from b → may b) line status before after
+    breaks because = elim because [
+      | inl six ↦ inl six
+      | inr rest ↦ elim rest [
+        | inl seven ↦ inr (inl seven)
+        | inr eight ↦ inr (inr (eight.0, eight.1, λ b tell. so b tell eight.2))
+      ]
+    ]

@@ -11,3 +11,7 @@ pub mod HostsThere
 pub mod QueriesRead
 pub mod FlavorsRead
 pub mod Comparing
+pub mod SplitAt
+pub mod EachFound
+pub mod PairsNamed
+pub mod LinesRead

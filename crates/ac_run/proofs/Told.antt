@@ -88,6 +88,21 @@ module _ {R : Type 0} (remaining : R → Option (List ℕ)) (failures : R → �
     | inr late ↦ elim late.0 [ inl output ↦ absurd (cc) | inr rest ↦ elim rest [ inl memory ↦ absurd (cc) | inr stopped ↦ absurd (cc) ] ]
   ]
 
+  pub ends_query : status ≡ 4 → IsNotAnswered
+  ends_query four = elim why [
+    | inl early ↦ elim early.1 [
+      | inl unread ↦ absurd (omega (arith, unread.3, four))
+      | inr rest ↦ elim rest [
+        | inl this ↦ the_answer remaining failures detail said from to line status early.1 err_old err_new before after told this.2
+        | inr memory ↦ absurd (omega (arith, memory.1, four))
+      ]
+    ]
+    | inr late ↦ elim late.0 [
+      | inl output ↦ absurd (omega (arith, output.1, four))
+      | inr rest ↦ elim rest [ inl memory ↦ absurd (omega (arith, memory.1, four)) | inr stopped ↦ absurd (omega (arith, stopped.1, four)) ]
+    ]
+  ]
+
   pub ends_part : (b : Bytes) → TellBytes remaining from b → TakesPart old new (said b).output
   ends_part b tell = elim why [ inl early ↦ subst (λ n. TakesPart old n (said b).output) (sym (same early.0)) (part_none old (said b).output) | inr late ↦ late.1 b tell ]
 

@@ -21,7 +21,8 @@ use Rattle.ac_rules.specs.Pages.{cut}
 use Rattle.ac_search.specs.At.{rest_at}
 use Rattle.ac_prune.specs.Fitting.{fits_at}
 use Rattle.ac_report.specs.ListRows.{list_text}
-use Rattle.ac_report.specs.Texts.{body, lines, shown_providers}
+use Rattle.ac_report.specs.Called.{lines_by}
+use Rattle.ac_report.specs.Texts.{body, shown_providers}
 use Rattle.ac_fill.specs.Bounds.{most_placed, shorts}
 use Rattle.ac_fill.specs.Filled.{filled}
 use Rattle.ac_run.specs.Outputs.{counted, counts, detailed_text, fill_status, sum_text, verdict_status, verdict_text}
@@ -41,8 +42,11 @@ use Rattle.ac_run.specs.Compared.{answer_read, compared_status, compared_text}
 use Rattle.ac_run.specs.Comparing.{answer_refused}
 use Rattle.ac_run.specs.Feeds.{Bytes, too_large}
 use Rattle.ac_run.specs.Flavors.{Plan, flavors_refused, plans_of}
-use Rattle.ac_run.specs.Lines.{answer_line, too_large_line, record_line, query_line, token_line, host_line, memory_line}
-use Rattle.ac_run.specs.Details.{asked_text, behind, fault_text, size_text}
+use Rattle.ac_run.specs.Lines.{answer_line, names_line, too_large_line, record_line, query_line, token_line, host_line, memory_line}
+use Rattle.ac_run.specs.Details.{asked_text, behind, fault_text, names_remedy, size_text}
+use Rattle.ac_run.specs.Naming.{task_asked}
+use Rattle.ac_run.specs.Refusals.{status_of_names}
+use Rattle.ac_run.specs.declared.refusal.NamesRefusal.{NamesRefusal}
 use Rattle.ac_run.specs.Wanted.Given.{tables_in, token_refusal}
 use Rattle.ac_run.specs.Tasks.{Command, Paths, Task, token_in}
 use Rattle.ac_run.specs.Tasks as command
@@ -65,6 +69,14 @@ written output status = record { output = output; line = []; status = status }
 abbrev pub told : {X : Type 0} → Option X → (X → Outcome) → Outcome → Outcome
 told None say otherwise = otherwise
 told (Some x) say otherwise = say x
+
+-- how it is said: by names, or by UUIDs; and with of what a rule is broken, or without
+pub record Manner : Type 0 where
+  pub named : Bool
+  pub detail : Bool
+
+abbrev pub manner_of : Task → Manner
+manner_of task = record { named = is_some task.names; detail = is_some task.detail }
 
 -- ---- the outputs
 
@@ -93,8 +105,8 @@ page_at all asked root ids = cut asked.limit (rest_at all asked root ids)
 abbrev pub page_body : List Provider → Bool → Option ℕ → Says
 page_body all traits root asked ids = written (body (shown_providers traits all) asked (page_at all asked root ids)) 0
 
-abbrev pub page_lines : List Provider → Option ℕ → Says
-page_lines all root asked ids = written (lines all (page_at all asked root ids)) 0
+abbrev pub page_lines : List Provider → Bool → Option ℕ → Says
+page_lines all named root asked ids = written (lines_by named all (page_at all asked root ids)) 0
 
 abbrev pub page_rows : List Provider → Bool → Option ℕ → Says
 page_rows all traits root asked ids = written (list_text (shown_providers traits all) asked (page_at all asked root ids)) 0
@@ -104,17 +116,21 @@ abbrev pub fill_limit : Bool → Asked → Option ℕ
 fill_limit false asked = asked.limit
 fill_limit true asked = None
 
--- placements, one after another: their tokens; or how many there are, how many there can be at most, and what roots are short of
-abbrev pub fill_text : Bool → List Provider → Asked → List (List ℕ) → List ℕ
-fill_text false all asked ts = lines all ts
-fill_text true all asked ts = sum_text (counted ts) (most_placed all asked) (shorts all asked)
+-- placements, one after another: their tokens, or their names; or how many there are, how many there can be at most, and what roots are short of
+abbrev pub fill_text : Bool → Bool → List Provider → Asked → List (List ℕ) → List ℕ
+fill_text named false all asked ts = lines_by named all ts
+fill_text named true all asked ts = sum_text (counted ts) (most_placed all asked) (shorts all asked)
 
 -- what is said of some placements
-abbrev pub fill_said : Bool → List Provider → Asked → List (List ℕ) → Outcome
-fill_said sum all asked ts = written (fill_text sum all asked ts) (fill_status (fill_limit sum asked) ts)
+abbrev pub fill_said : Bool → Bool → List Provider → Asked → List (List ℕ) → Outcome
+fill_said named sum all asked ts = written (fill_text named sum all asked ts) (fill_status (fill_limit sum asked) ts)
 
+abbrev pub fills_by : Bool → List Provider → Bool → Says
+fills_by named all sum asked ids = fill_said named sum all asked (filled (fill_limit sum asked) all asked)
+
+-- by their UUIDs
 abbrev pub fills : List Provider → Bool → Says
-fills all sum asked ids = fill_said sum all asked (filled (fill_limit sum asked) all asked)
+fills = fills_by false
 
 abbrev pub verdict_line : List Provider → Bool → Says
 verdict_line all detail asked ids = verdict_on all detail asked (option_and_then (places_of all) ids)
@@ -198,34 +214,34 @@ abbrev pub past_query : Says → Option (List ℕ) → Version → List ℕ → 
 past_query say token version query =
     told (query_fault version query) (λ f. refused (query_line f) 4) (past_token say token (asked_by version (pairs_of query)))
 
--- what a command says of an accepted query, in a world; of what a rule is broken, where more is told
-abbrev pub said_by : Command → Bool → World → Says
-said_by command.check detail world = λ asked ids. written (counts world.sizes) 0
-said_by (command.candidates after at traits) detail world = at_host world.providers at (page_body world.providers traits)
-said_by (command.tokens after at) detail world = at_host world.providers at (page_lines world.providers)
-said_by (command.list after at traits) detail world = at_host world.providers at (page_rows world.providers traits)
-said_by (command.fill sum) detail world = fills world.providers sum
-said_by (command.verify token) detail world = verdict_line world.providers detail
-said_by command.explain detail world = explanation world.providers
-said_by (command.hosts sum within) detail world = host_rows world.providers sum within
-said_by (command.why host) detail world = why_rows world.providers host
-said_by (command.capacity flavors metrics) detail world = λ asked ids. capacities metrics world.providers []
-said_by (command.compare answer) detail world = compare_said answer world.providers
-said_by (command.audit zone) detail world = λ asked ids. amiss world (zone_named zone)
-said_by command.reading detail world = reading
-said_by command.parameters detail world = λ asked ids. parameters
+-- what a command says of an accepted query, in a world: by names, where they stand in place of UUIDs; and of what a rule is broken, where more is told
+abbrev pub said_by : Command → Manner → World → Says
+said_by command.check manner world = λ asked ids. written (counts world.sizes) 0
+said_by (command.candidates after at traits) manner world = at_host world.providers at (page_body world.providers traits)
+said_by (command.tokens after at) manner world = at_host world.providers at (page_lines world.providers manner.named)
+said_by (command.list after at traits) manner world = at_host world.providers at (page_rows world.providers traits)
+said_by (command.fill sum) manner world = fills_by manner.named world.providers sum
+said_by (command.verify token) manner world = verdict_line world.providers manner.detail
+said_by command.explain manner world = explanation world.providers
+said_by (command.hosts sum within) manner world = host_rows world.providers sum within
+said_by (command.why host) manner world = why_rows world.providers host
+said_by (command.capacity flavors metrics) manner world = λ asked ids. capacities metrics world.providers []
+said_by (command.compare answer) manner world = compare_said answer world.providers
+said_by (command.audit zone) manner world = λ asked ids. amiss world (zone_named zone)
+said_by command.reading manner world = reading
+said_by command.parameters manner world = λ asked ids. parameters
 
 -- the answer of a command; `check`, `audit` and the parameters ask for no query, and `capacity` for those of its flavors
-abbrev pub answer_by : Command → Bool → Version → List ℕ → World → Outcome
-answer_by command.check detail version query world = written (counts world.sizes) 0
-answer_by (command.capacity flavors metrics) detail version query world = capacity_said version flavors metrics world.providers
-answer_by (command.audit zone) detail version query world = amiss world (zone_named zone)
-answer_by command.parameters detail version query world = parameters
-answer_by asks detail version query world = past_query (said_by asks detail world) (token_in asks) version query
+abbrev pub answer_by : Command → Manner → Version → List ℕ → World → Outcome
+answer_by command.check manner version query world = written (counts world.sizes) 0
+answer_by (command.capacity flavors metrics) manner version query world = capacity_said version flavors metrics world.providers
+answer_by (command.audit zone) manner version query world = amiss world (zone_named zone)
+answer_by command.parameters manner version query world = parameters
+answer_by asks manner version query world = past_query (said_by asks manner world) (token_in asks) version query
 
 -- the answer to a task in a world
 abbrev pub answer_in : Task → World → Outcome
-answer_in task world = answer_by task.command (is_some task.detail) task.version task.query world
+answer_in task world = answer_by task.command (manner_of task) task.version task.query world
 
 -- ---- with what is to be done about a refusal
 
@@ -240,6 +256,15 @@ remedy_in task world = behind task.detail (λ paths. asked_text world.providers 
 -- the answer to a task in a world, and behind a refusal what is to be done
 abbrev pub answer_within : Task → World → Outcome
 answer_within task world = with_detail (remedy_in task world) (answer_in task world)
+
+-- what is said of a task with UUIDs in place of names, unless a name stands for nothing
+abbrev pub past_names : Option Paths → Result Task NamesRefusal → (Task → Outcome) → Outcome
+past_names detail (Ok asked) say = say asked
+past_names detail (Err why) say = refused (names_line why ++ behind detail (λ paths. names_remedy why)) (status_of_names why)
+
+-- the answer to a task in a world, in which names may stand in place of UUIDs
+abbrev pub answer_named : Task → World → Outcome
+answer_named task world = past_names task.detail (task_asked task world) (λ asked. answer_within asked world)
 
 -- a table that has too many bytes
 abbrev pub size_refused : Option Paths → Table → Outcome
@@ -262,4 +287,4 @@ past_tables detail changes b say =
 
 -- the answer to a task over the bytes of five tables
 unfoldable pub answer : Task → Bytes → Outcome
-answer task b = past_tables task.detail task.changes b (answer_within task)
+answer task b = past_tables task.detail task.changes b (answer_named task)

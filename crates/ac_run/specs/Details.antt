@@ -22,6 +22,9 @@ use Rattle.ac_run.specs.declared.refusal.AnswerRefusal.TheVariants as answer
 use Rattle.ac_run.specs.declared.refusal.AskRefusal.{AskRefusal}
 use Rattle.ac_run.specs.declared.refusal.AskRefusal.TheVariants as ask
 use Rattle.ac_run.specs.declared.refusal.ChangesRefusal.TheVariants as changes
+use Rattle.ac_run.specs.declared.refusal.NamesRefusal.{NamesRefusal}
+use Rattle.ac_run.specs.declared.refusal.NamesRefusal.TheVariants as names
+use Rattle.ac_report.specs.declared.called.NameFault.TheVariants as fault
 use Rattle.ac_run.specs.declared.refusal.TablesRefusal.{TablesRefusal}
 use Rattle.ac_run.specs.declared.refusal.TablesRefusal.TheVariants as tables
 use Rattle.ac_tables.specs.FiveTables.{table_in}
@@ -116,6 +119,15 @@ fault_remedy stated _ = λ paths. []
 abbrev pub changes_remedy : TablesRefusal → List ℕ
 changes_remedy (tables.Changes (changes.At line why)) = change_remedy why
 changes_remedy _ = []
+
+-- of names that can't be read
+unfoldable pub names_remedy : NamesRefusal → List ℕ
+names_remedy (names.Record row kind) = codes "  Each record is the UUID of an aggregate and a name of it, behind the header uuid,name.\n"
+names_remedy (names.Pair n fault.Unknown) = codes "  No provider has this name (in_tree), or no aggregate (member_of): their names stand in aggregate-names.csv.\n"
+names_remedy (names.Token fault.Unknown) = codes "  No provider has this name.\n"
+names_remedy (names.Pair n fault.Ambiguous) = codes "  Several have this name; write the UUID of one.\n"
+names_remedy (names.Token fault.Ambiguous) = codes "  Several have this name; write the UUID of one.\n"
+names_remedy _ = []
 
 -- of what is asked and refused
 abbrev pub asked_remedy : Task → AskRefusal → List ℕ

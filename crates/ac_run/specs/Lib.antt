@@ -12,6 +12,7 @@ pub mod Details
 pub mod Wanted
 pub mod Outputs
 pub mod Answer
+pub mod Naming
 pub mod Notes
 pub mod Run
 pub mod Stops

@@ -7,8 +7,12 @@ use Rattle.ac_cloud.specs.declared.cloud.provider_name.HostFault.TheVariants as 
 use Rattle.ac_query.specs.Faults.{Fault, too_long, unknown_parameter, repeated, bad_value, conflict, no_resources, group_without_resources, unknown_suffix, policy_missing, too_many_slots}
 use Rattle.ac_query.specs.declared.token.TokenFault.{TokenFault}
 use Rattle.ac_query.specs.declared.token.TokenFault.TheVariants as token
+use Rattle.ac_report.specs.declared.called.NameFault.{NameFault}
+use Rattle.ac_report.specs.declared.called.NameFault.TheVariants as fault
 use Rattle.ac_run.specs.declared.refusal.AnswerRefusal.{AnswerRefusal}
 use Rattle.ac_run.specs.declared.refusal.AnswerRefusal.TheVariants as answer
+use Rattle.ac_run.specs.declared.refusal.NamesRefusal.{NamesRefusal}
+use Rattle.ac_run.specs.declared.refusal.NamesRefusal.TheVariants as names
 use Rattle.ac_tables.specs.Tables.Names.{kind_name, table_name}
 use Rattle.ac_tables.specs.declared.fault.Table.{Table}
 use Rattle.ac_tables.specs.declared.fault.TableKind.{TableKind}
@@ -69,3 +73,25 @@ unfoldable pub answer_line : AnswerRefusal → List ℕ
 answer_line answer.Unreadable = codes "answer: Unreadable\n"
 answer_line answer.TooLarge = codes "answer: TooLarge\n"
 answer_line answer.BadAnswer = codes "answer: BadAnswer\n"
+
+-- why a name stands for nothing
+unfoldable pub name_fault : NameFault → List ℕ
+name_fault fault.Unknown = codes "UnknownName"
+name_fault fault.Ambiguous = codes "AmbiguousName"
+
+-- the name of the table of names of aggregates
+unfoldable pub aggregates_name : List ℕ
+aggregates_name = codes "aggregate-names"
+
+-- what is wrong with a record of it
+unfoldable pub called_line : ℕ → List ℕ → List ℕ
+called_line row name = line_at aggregates_name row name
+
+-- why names in place of UUIDs can't be read
+unfoldable pub names_line : NamesRefusal → List ℕ
+names_line names.Unreadable = codes "aggregate-names: Unreadable\n"
+names_line names.TooLarge = codes "aggregate-names: TooLarge\n"
+names_line (names.Record row k) = called_line row (kind_name k)
+names_line (names.Pair n f) = pair_line n (name_fault f)
+names_line (names.Token f) = said (codes "token: " ∷ name_fault f ∷ newline ∷ [])
+names_line names.NoMemory = memory_line

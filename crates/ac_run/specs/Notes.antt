@@ -9,6 +9,7 @@ use Rattle.ac_query.specs.Shown.Queries.{asked_of}
 use Rattle.ac_report.specs.Findings.Explanation.Differing.{differs_lines}
 use Rattle.ac_run.specs.Changing.{world_in}
 use Rattle.ac_run.specs.Feeds.{Bytes}
+use Rattle.ac_run.specs.Naming.{task_told}
 use Rattle.ac_run.specs.Tasks.{Command, Paths, Task}
 use Rattle.ac_run.specs.Tasks as command
 use Rattle.ac_run.specs.declared.wanted.Wanted.{Wanted}
@@ -51,7 +52,7 @@ noted_in task world = told_behind task.command task.detail world (noted_by task.
 
 -- over the bytes of five tables
 abbrev pub noted : Task → Bytes → List ℕ
-noted task b = noted_in task (world_in task.changes b)
+noted task b = noted_in (task_told task (world_in task.changes b)) (world_in task.changes b)
 
 -- of what is wanted
 abbrev pub note_to : Wanted → World → List ℕ

@@ -76,6 +76,16 @@ BreaksOff may line status before after =
     ((line ≡ output_line) × (status ≡ 6) × Rises before after)
     ⊎ (((line ≡ memory_line) × (status ≡ 7)) ⊎ ((line ≡ tries_line) × (status ≡ 8) × may))
 
+-- Why nothing was answered of a world, where this is said: what is said is this very refusal, or memory gave out.
+abbrev pub IsRefusedSo : Outcome → List ℕ → ℕ → Type 0
+IsRefusedSo said line status =
+    ((3 ≤ status) × (status ≤ 5) × (said ≡ refused line status)) ⊎ ((line ≡ memory_line) × (status ≡ 7))
+
+-- Why no answer was given of a world, where this is said: nothing was answered, and nothing written; or the answer broke off.
+abbrev pub EndsIn : Outcome → Type 0 → List ℕ → ℕ → Type 0 → Option (List ℕ) → Option (List ℕ) → ℕ → ℕ → Type 0
+EndsIn said may line status Untouched old new before after =
+    (Untouched × IsRefusedSo said line status) ⊎ (BreaksOff may line status before after × TakesPart old new said.output)
+
 -- Why a run gave no answer, by the line that tells it and its status: nothing was answered, and nothing written; or the answer broke off, and what was written is
 -- a first part of the output.
 abbrev pub Ends : {R : Type 0} → (R → Option (List ℕ)) → (R → ℕ) → Option Paths → (Bytes → Outcome) → (Bytes → Type 0) → FiveTables R → FiveTables R → List ℕ → ℕ

@@ -1,7 +1,7 @@
 -- Which searches may stop before their end, by the tries that they may make.
 use Rattle.std.specs.Prelude.{Contains, ℕ, List, Option, None, map}
 use Rattle.std.specs.Option.{option_map}
-use Rattle.ac_cloud.specs.World.{Provider}
+use Rattle.ac_cloud.specs.World.{Provider, World}
 use Rattle.ac_query.specs.Asked.{Asked}
 use Rattle.ac_query.specs.Laws.Gathered.{asked_by}
 use Rattle.ac_query.specs.Pairs.{pairs_of}
@@ -13,6 +13,7 @@ use Rattle.ac_run.specs.Answer.{ids_given}
 use Rattle.ac_run.specs.Changing.{world_in}
 use Rattle.ac_run.specs.Feeds.{Bytes}
 use Rattle.ac_run.specs.Flavors.{Plan, plan_shown, plans_of}
+use Rattle.ac_run.specs.Naming.{task_told}
 use Rattle.ac_run.specs.Tasks.{Command, Task}
 use Rattle.ac_run.specs.Tasks as command
 use Rattle.ac_run.specs.declared.wanted.Wanted.{Wanted}
@@ -40,9 +41,13 @@ SearchMayStop (command.audit _) version tries all asked = ⊥
 SearchMayStop command.reading version tries all asked = ⊥
 SearchMayStop command.parameters version tries all asked = ⊥
 
--- a search of a task may stop, over the bytes of five tables
+-- a search of a task may stop in a world
+abbrev pub StopsIn : Task → World → Type 0
+StopsIn task world = SearchMayStop task.command task.version task.tries world.providers (asked_by task.version (pairs_of task.query))
+
+-- of one with UUIDs in place of names, over the bytes of five tables
 abbrev pub TaskMayStop : Task → Bytes → Type 0
-TaskMayStop task b = SearchMayStop task.command task.version task.tries (world_in task.changes b).providers (asked_by task.version (pairs_of task.query))
+TaskMayStop task b = StopsIn (task_told task (world_in task.changes b)) (world_in task.changes b)
 
 -- a search for what is wanted may stop, with so many tries
 abbrev pub AnswerMayStop : Wanted → Option ℕ → List Provider → Type 0

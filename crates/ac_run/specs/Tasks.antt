@@ -31,13 +31,15 @@ pub data Command : Type 0 where
 abbrev pub Paths : Type 0
 Paths = FiveTables (List ℕ)
 
--- what is asked: the query, the version that reads it, how many tries each search may make, what is changed before, and the paths where more is told
+-- what is asked: the query, the version that reads it, how many tries each search may make, what is changed before, the table of names of aggregates where names stand
+-- in place of UUIDs, and the paths where more is told
 pub record Task : Type 0 where
   pub command : Command
   pub query : List ℕ
   pub version : Version
   pub tries : Option ℕ
   pub changes : Option (List ℕ)
+  pub names : Option (List ℕ)
   pub detail : Option Paths
 
 -- the token to judge, or to begin after
@@ -90,4 +92,4 @@ abbrev pub changes_shown : Option (Bor (List ℕ)) → Option (List ℕ)
 changes_shown changes = option_map (λ t. t.now) changes
 
 abbrev pub task_of : Job → Task
-task_of job = record { command = command_shown job.command; query = job.query.now; version = job.version; tries = job.tries; changes = changes_shown job.changes; detail = detail_shown job.detail }
+task_of job = record { command = command_shown job.command; query = job.query.now; version = job.version; tries = job.tries; changes = changes_shown job.changes; names = changes_shown job.names; detail = detail_shown job.detail }

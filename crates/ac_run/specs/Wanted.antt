@@ -1,7 +1,8 @@
 -- What is wanted of a cloud, and why what is asked is refused.
 pub mod Given
 pub mod Mark
-use Rattle.std.specs.Prelude.{◌≡◌, ◌<◌, ℕ, Bool, IfSome, true, is_some, List, length, map, Option, Some, None, Result, Err, ⊤}
+pub mod Named
+use Rattle.std.specs.Prelude.{◌≡◌, ◌<◌, ℕ, Bool, IfSome, true, List, length, map, Option, Some, None, Result, Err, ⊤}
 use Rattle.std.specs.List.{All}
 use Rattle.std.specs.Option.{option_map}
 use Rattle.ac_cloud.specs.Cloud.Hosts.{host_of}
@@ -16,7 +17,7 @@ use Rattle.ac_query.specs.Shown.Faults.{fault_shown}
 use Rattle.ac_query.specs.Shown.Queries.{asked_of}
 use Rattle.ac_query.specs.Tokens.{ids_of}
 use Rattle.ac_query.specs.declared.token.TokenFault.{TokenFault}
-use Rattle.ac_run.specs.Answer.{Outcome, amiss, capacities, comparison, explanation, fills, host_rows, page_body, page_lines, page_rows, parameters, reading, verdict_line, why_not, written}
+use Rattle.ac_run.specs.Answer.{Outcome, amiss, capacities, comparison, explanation, fills_by, host_rows, page_body, page_lines, page_rows, parameters, reading, verdict_line, why_not, written}
 use Rattle.ac_run.specs.Compared.Answers.{texts_in}
 use Rattle.ac_run.specs.Comparing.{answer_refused}
 use Rattle.ac_run.specs.Wanted.Given.{token_refusal}
@@ -30,22 +31,22 @@ use Rattle.ac_run.specs.declared.refusal.AskRefusal.TheVariants as ask
 use Rattle.ac_run.specs.declared.wanted.Wanted.{Wanted}
 use Rattle.ac_run.specs.declared.wanted.Wanted.TheVariants as wanted
 
--- the answer to what is wanted, in a world
-abbrev pub answer_to : Wanted → World → Outcome
-answer_to wanted.Counts world = written (counts world.sizes) 0
-answer_to (wanted.Body page traits) world = page_body world.providers traits page.root (asked_of page.query) (option_map ids_of page.token)
-answer_to (wanted.Lines page) world = page_lines world.providers page.root (asked_of page.query) (option_map ids_of page.token)
-answer_to (wanted.Rows page traits) world = page_rows world.providers traits page.root (asked_of page.query) (option_map ids_of page.token)
-answer_to (wanted.Fill query sum) world = fills world.providers sum (asked_of query) None
-answer_to (wanted.Verdict query token detail) world = verdict_line world.providers detail (asked_of query) (Some (ids_of token))
-answer_to (wanted.Explanation question) world = explanation world.providers (asked_of question.query) None
-answer_to (wanted.Hosts query sum within) world = host_rows world.providers sum within (asked_of query) None
-answer_to (wanted.Why query host) world = why_not world.providers (asked_of query) host
-answer_to (wanted.Capacity plans metrics) world = capacities metrics world.providers (map plan_shown plans.items)
-answer_to (wanted.Comparison query answer) world = comparison world.providers (asked_of query) (texts_in answer)
-answer_to (wanted.Amiss zone) world = amiss world zone
-answer_to (wanted.Reading query) world = reading (asked_of query) None
-answer_to wanted.Parameters world = parameters
+-- the answer to what is wanted, in a world: its lines by names, or by UUIDs
+abbrev pub answer_to : Bool → Wanted → World → Outcome
+answer_to named wanted.Counts world = written (counts world.sizes) 0
+answer_to named (wanted.Body page traits) world = page_body world.providers traits page.root (asked_of page.query) (option_map ids_of page.token)
+answer_to named (wanted.Lines page) world = page_lines world.providers named page.root (asked_of page.query) (option_map ids_of page.token)
+answer_to named (wanted.Rows page traits) world = page_rows world.providers traits page.root (asked_of page.query) (option_map ids_of page.token)
+answer_to named (wanted.Fill query sum) world = fills_by named world.providers sum (asked_of query) None
+answer_to named (wanted.Verdict query token detail) world = verdict_line world.providers detail (asked_of query) (Some (ids_of token))
+answer_to named (wanted.Explanation question) world = explanation world.providers (asked_of question.query) None
+answer_to named (wanted.Hosts query sum within) world = host_rows world.providers sum within (asked_of query) None
+answer_to named (wanted.Why query host) world = why_not world.providers (asked_of query) host
+answer_to named (wanted.Capacity plans metrics) world = capacities metrics world.providers (map plan_shown plans.items)
+answer_to named (wanted.Comparison query answer) world = comparison world.providers (asked_of query) (texts_in answer)
+answer_to named (wanted.Amiss zone) world = amiss world zone
+answer_to named (wanted.Reading query) world = reading (asked_of query) None
+answer_to named wanted.Parameters world = parameters
 
 -- The token on which a verdict is wanted has an id for each slot of the query; a query that is placed again and again asks for an amount of a class; and
 -- the provider that is asked about is there. So does that of each flavor.
@@ -58,10 +59,6 @@ IsSound all (wanted.Fill query sum) = asks_units (asked_of query) ≡ true
 IsSound all (wanted.Why query host) = host < length all
 IsSound all (wanted.Capacity plans metrics) = All (λ plan. asks_units (asked_of plan.query) ≡ true) plans.items
 IsSound all _ = ⊤
-
--- whether more is told
-abbrev pub details_in : Task → Bool
-details_in task = is_some task.detail
 
 -- ---- why what is asked is refused
 

@@ -1,6 +1,6 @@
 //! The answers over a cloud, each written with its status.
 
-ghost use Rattle.std.specs.Prelude.{◌≡◌, ◌<◌, IfOk, IfSome, Some, None, length};
+ghost use Rattle.std.specs.Prelude.{◌≡◌, ◌<◌, IfOk, IfSome, Some, None, is_some, length};
 ghost use Rattle.std.specs.List.{All};
 ghost use Rattle.std.specs.Option.{option_map};
 ghost use Rattle.ac_cloud.specs.Cloud.CloudWorld.{providers_of, world_of};
@@ -14,6 +14,7 @@ ghost use Rattle.ac_run.specs.Compared.Answers.{texts_in};
 ghost use Rattle.ac_run.specs.Wanted.{IsSound, answer_to};
 ghost use Rattle.ac_run.specs.Outputs.{counts, detailed_text, verdict_status, verdict_text};
 ghost use Rattle.ac_rules.specs.declared.verdict.Verdict.TheVariants as Verdict;
+ghost use Rattle.ac_report.specs.Called.{AreCalled, providers_called};
 ghost use Rattle.ac_report.specs.Pages.{IsAssignment};
 ghost use Rattle.ac_search.specs.At.{rest_at};
 ghost use Rattle.ac_run.specs.Run.{Delivers};
@@ -35,7 +36,7 @@ use ac_report::findings::{
     Question, Told, audit_text, differences_text, explanation_status, find_apart, find_without,
     has_candidate, hosts_status, hosts_text, root_place, sums_text, why_at,
 };
-use ac_report::{PageFault, write_list, write_shown_page, write_tokens};
+use ac_report::{Names, PageFault, write_list, write_shown_page, write_tokens};
 use ac_rules::{Assignment, InCloud, Rule, Verdict, verify};
 use ac_search::{Source, Walk, fitting_roots};
 use ac_tables::Cloud;
@@ -71,17 +72,20 @@ fn walk_of<'a>(
     Ok(walk.within(tries))
 }
 
-// The tokens of a page, a line each.
+// The tokens of a page, a line each, of UUIDs or by names.
 #[tactic(auto, using(crate::proofs::Delivering::refused))]
 fn write_lines<W: Sink>(
     alloc: Global,
     cloud: &Cloud,
+    names: Option<&Names<'_>>,
     page: &Page,
     tries: Option<u64>,
     out: &mut W,
 ) -> Result<u8, PageFault>
-    requires { IfSome page.now.root (λ root. root < length (providers_of cloud.now)) }
-    ensures { Delivers (page_lines (providers_of cloud.now) page.now.root
+    requires root { IfSome page.now.root (λ root. root < length (providers_of cloud.now)) }
+    requires names { IfSome names (λ names.
+        AreCalled (providers_called (providers_of cloud.now)) names.now) }
+    ensures { Delivers (page_lines (providers_of cloud.now) (is_some names.entry) page.now.root
         (asked_of page.now.query) (option_map ids_of page.now.token))
         (MayStop tries (providers_of cloud.now) (asked_of page.now.query)
         (option_map ids_of page.now.token))
@@ -89,7 +93,7 @@ fn write_lines<W: Sink>(
         (W.failures out.new) }
 {
     let mut source = walk_of(alloc, cloud, page, tries)?;
-    write_tokens(alloc, cloud, &page.query, &mut source, out)?;
+    write_tokens(alloc, cloud, names, &page.query, &mut source, out)?;
     Ok(0)
 }
 
@@ -381,16 +385,19 @@ fn write_parameters<W: Sink>(out: &mut W) -> Result<u8, PageFault>
     Ok(0)
 }
 
-/// Writes what is wanted of a cloud, and gives its status. Each search may make so many tries; without a number, as many as it takes.
+/// Writes what is wanted of a cloud, and gives its status: lines of UUIDs, or by names where they are given. Each search may make so many tries; without a number, as many as it takes.
 pub fn write_answer<W: Sink>(
     alloc: Global,
     cloud: &Cloud,
+    names: Option<&Names<'_>>,
     wanted: &Wanted,
     tries: Option<u64>,
     out: &mut W,
 ) -> Result<u8, PageFault>
-    requires { IsSound (providers_of cloud.now) wanted.now }
-    ensures { Delivers (answer_to wanted.now (world_of cloud.now))
+    requires sound { IsSound (providers_of cloud.now) wanted.now }
+    requires names { IfSome names (λ names.
+        AreCalled (providers_called (providers_of cloud.now)) names.now) }
+    ensures { Delivers (answer_to (is_some names.entry) wanted.now (world_of cloud.now))
         (AnswerMayStop wanted.now tries (providers_of cloud.now))
         result (W.taken out.old)
         (W.taken out.new) (W.failures out.old) (W.failures out.new) }
@@ -398,9 +405,9 @@ pub fn write_answer<W: Sink>(
     match wanted {
         Wanted::Counts => write_counts(cloud, out),
         Wanted::Body(page, traits) => write_body(alloc, cloud, page, *traits, tries, out),
-        Wanted::Lines(page) => write_lines(alloc, cloud, page, tries, out),
+        Wanted::Lines(page) => write_lines(alloc, cloud, names, page, tries, out),
         Wanted::Rows(page, traits) => write_rows(alloc, cloud, page, *traits, tries, out),
-        Wanted::Fill(query, sum) => write_fill(alloc, cloud, query, *sum, tries, out),
+        Wanted::Fill(query, sum) => write_fill(alloc, cloud, names, query, *sum, tries, out),
         Wanted::Verdict(query, token, detail) => {
             write_verdict(alloc, cloud, query, token, *detail, out)
         }

@@ -78,6 +78,9 @@ pub struct Job<'a> {
     pub tries: Option<u64>,
     /// What is changed of the cloud before anything is asked of it, a line each.
     pub changes: Option<&'a [u8]>,
+    /// The table of names of aggregates, where names stand in place of UUIDs: those of providers and of aggregates in the query and the token, and in lines of
+    /// placements and of tokens the names of providers.
+    pub names: Option<&'a [u8]>,
     /// The paths of the tables' files, where more is told: behind the line of a refusal what to do about it, of a verdict of what a rule is broken, and in the
     /// note of a run where the service may answer otherwise.
     pub detail: Option<&'a Paths<'a>>,
@@ -85,6 +88,7 @@ pub struct Job<'a> {
 
 impl<'a> Command<'a> {
     ghost use Rattle.std.specs.Prelude.{◌≡◌, option_map};
+    ghost use Rattle.ac_run.specs.Naming.{with_token};
     ghost use Rattle.ac_run.specs.Tasks.{command_shown, host_in, token_in};
 
     /// The token to judge, or to begin after.
@@ -97,6 +101,34 @@ impl<'a> Command<'a> {
             | Command::List { after, .. } => { after }
             Command::Verify { token } => Some(token),
             _ => None,
+        }
+    }
+
+    /// The same, with this token to judge or to begin after, where it has one.
+    pub(crate) fn with_token<'b>(&'b self, token: Option<&'b str>) -> Command<'b>
+        ensures { command_shown result
+            ≡ with_token (command_shown self.now) (option_map (λ t. t.now) token.entry) }
+    {
+        match (*self, token) {
+            (
+                Command::Candidates {
+                    after: _,
+                    at,
+                    traits,
+                },
+                after,
+            ) => { Command::Candidates { after, at, traits } }
+            (Command::Tokens { after: _, at }, after) => Command::Tokens { after, at },
+            (
+                Command::List {
+                    after: _,
+                    at,
+                    traits,
+                },
+                after,
+            ) => Command::List { after, at, traits },
+            (Command::Verify { token: _ }, Some(token)) => Command::Verify { token },
+            (command, _) => command,
         }
     }
 

@@ -24,7 +24,8 @@ pub use outputs::push_verdict;
 pub use ready::read_inputs;
 pub use refusal::lines::{asked_status, push_asked_line, tell};
 pub use refusal::{
-    AnswerRefusal, AskRefusal, ChangesRefusal, FlavorsRefusal, Refusal, Refused, TablesRefusal,
+    AnswerRefusal, AskRefusal, ChangesRefusal, FlavorsRefusal, NamesRefusal, Refusal, Refused,
+    TablesRefusal,
 };
 pub use run_job::run;
 pub use wanted::mark::{has_path, past_mark};

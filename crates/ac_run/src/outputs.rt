@@ -10,7 +10,7 @@ ghost use Rattle.ac_run.specs.Run.{Delivers};
 
 pub(crate) mod compared;
 pub(crate) mod parameters;
-mod plain;
+pub(crate) mod plain;
 pub(crate) mod query_rows;
 
 use ac_base::{Digits, NoMemory, Sink, WriteFailed, push_all, push_pieces};

@@ -1,5 +1,5 @@
 //! What a run has before the first byte of output: the cloud that the tables state, what is wanted of it, and what is to be told behind the answer.
-ghost use Rattle.std.specs.Prelude.{◌≡◌, ◌∷◌, ℕ, [], Contains, IfOk, IfErr, OnOk, None, Option, Some};
+ghost use Rattle.std.specs.Prelude.{◌≡◌, ◌∷◌, ℕ, [], Contains, IfOk, IfErr, OnOk, None, Option, Some, is_some};
 ghost use Rattle.std.specs.Option.{option_map};
 ghost use Rattle.ac_tables.specs.Source.{AreFew, tables_of};
 ghost use Rattle.ac_tables.specs.Tables.{tables_fault, world_stated};
@@ -7,17 +7,17 @@ ghost use Rattle.ac_change.specs.Faults.{TellsLine};
 ghost use Rattle.ac_change.specs.declared.fault.ChangeKind.{ChangeKind};
 ghost use Rattle.ac_cloud.specs.World.{World};
 ghost use Rattle.ac_cloud.specs.Cloud.CloudWorld.{providers_of, world_of};
-ghost use Rattle.ac_run.specs.Answer.{Outcome, answer, past_tables, remedy_in, with_detail};
+ghost use Rattle.ac_run.specs.Answer.{Outcome, answer_within, past_tables, remedy_in, with_detail};
 ghost use Rattle.ac_run.specs.Changing.{change_fault, changed_by};
 ghost use Rattle.ac_run.specs.Wanted.Given.{tables_in};
-ghost use Rattle.ac_run.specs.Notes.{noted};
+ghost use Rattle.ac_run.specs.Notes.{noted_in};
 ghost use Rattle.ac_run.specs.Wanted.{IsSound, answer_to};
 ghost use Rattle.ac_run.specs.Feeds.Draining.{texts_shown};
 ghost use Rattle.ac_run.specs.Feeds.{Bytes, TellBytes, too_large};
 ghost use Rattle.ac_run.specs.Tasks.{changes_shown, detail_shown, task_of};
 ghost use Rattle.ac_run.specs.Refusals.{line_told, status_told};
-ghost use Rattle.ac_run.specs.Stops.{AnswerMayStop, TaskMayStop};
-ghost use Rattle.ac_run.specs.Run.{Explains, ExplainsChanges, ExplainsTables, IsStated};
+ghost use Rattle.ac_run.specs.Stops.{AnswerMayStop, StopsIn};
+ghost use Rattle.ac_run.specs.Run.{Explains, ExplainsChanges, ExplainsTables, IsRefusedSo, IsStated};
 
 use crate::inputs::{Inputs, Texts, read_tables};
 use crate::job::{Job, Paths};
@@ -30,12 +30,11 @@ use ac_change::{ChangeFault, change, read_changes};
 use ac_tables::{Cloud, FromTables, Sources, TableFault};
 use std::alloc::Global;
 
-/// A cloud, what is wanted of it, and what is told behind the answer.
+/// What is wanted of a cloud, and what is told behind the answer.
 #[derive(Drop)]
-pub struct Ready {
-    pub cloud: Cloud,
-    pub wanted: Wanted,
-    pub note: Vec<u8>,
+pub(crate) struct Ready {
+    pub(crate) wanted: Wanted,
+    pub(crate) note: Vec<u8>,
 }
 
 // The text of a table that may not be there.
@@ -161,33 +160,23 @@ pub fn read_inputs<R: Feed>(
     }
 }
 
-/// Reads the tables in their order, then the query, then the token, and looks for the host.
-pub(crate) fn make_ready<R: Feed>(
-    alloc: Global,
-    job: &Job,
-    inputs: &mut Inputs<R>,
-) -> Result<Ready, Refused>
-    ensures answer { IfOk result (λ ready. (b : Bytes) → TellBytes R.remaining inputs.old b
-        → answer (task_of job.now) b ≡ with_detail
-        (remedy_in (task_of job.now) (world_of ready.cloud))
-        (answer_to ready.wanted (world_of ready.cloud))) }
-    ensures sound { IfOk result (λ ready. IsSound (providers_of ready.cloud) ready.wanted) }
-    ensures note { IfOk result (λ ready. (b : Bytes) → TellBytes R.remaining inputs.old b
-        → ready.note.items ≡ noted (task_of job.now) b) }
-    ensures stops { IfOk result (λ ready. (b : Bytes) → TellBytes R.remaining inputs.old b
-        → AnswerMayStop ready.wanted job.now.tries (providers_of ready.cloud)
-        → TaskMayStop (task_of job.now) b) }
-    ensures fault { IfErr result (λ told. Explains R.remaining R.failures (task_of job.now).detail
-        (answer (task_of job.now)) inputs.old inputs.new (line_told told) (status_told told)) }
+/// Reads the query of a job, then its token, and looks for its host, in a cloud.
+pub(crate) fn make_ready(alloc: Global, job: &Job, cloud: &Cloud) -> Result<Ready, Refused>
+    ensures answer { IfOk result (λ ready. answer_within (task_of job.now) (world_of cloud.now)
+        ≡ with_detail (remedy_in (task_of job.now) (world_of cloud.now))
+        (answer_to (is_some (task_of job.now).names) ready.wanted (world_of cloud.now))) }
+    ensures sound { IfOk result (λ ready. IsSound (providers_of cloud.now) ready.wanted) }
+    ensures note { IfOk result (λ ready.
+        ready.note.items ≡ noted_in (task_of job.now) (world_of cloud.now)) }
+    ensures stops { IfOk result (λ ready.
+        AnswerMayStop ready.wanted job.now.tries (providers_of cloud.now)
+        → StopsIn (task_of job.now) (world_of cloud.now)) }
+    ensures fault { IfErr result (λ told. IsRefusedSo
+        (answer_within (task_of job.now) (world_of cloud.now)) (line_told told) (status_told told)) }
 {
-    let cloud = read_inputs(alloc, job.detail, job.changes, inputs)?;
-    match read_wanted(alloc, job, &cloud) {
-        Ok(wanted) => match note_if_told(alloc, job, &cloud, &wanted) {
-            Ok(note) => Ok(Ready {
-                cloud,
-                wanted,
-                note,
-            }),
+    match read_wanted(alloc, job, cloud) {
+        Ok(wanted) => match note_if_told(alloc, job, cloud, &wanted) {
+            Ok(note) => Ok(Ready { wanted, note }),
             Err(NoMemory) => Err(Refused::of(alloc, Refusal::NoMemory)),
         },
         Err(refusal) => {

@@ -7,6 +7,7 @@ pub mod lines;
 use ac_change::ChangeKind;
 use ac_cloud::HostFault;
 use ac_query::{QueryFault, TokenFault};
+use ac_report::NameFault;
 use ac_tables::{Table, TableKind};
 use std::alloc::{AllocError, AllocFailed, Global};
 
@@ -92,6 +93,23 @@ pub enum FlavorsRefusal {
     Query { row: u32, fault: QueryFault },
 }
 
+/// Why names in place of UUIDs can't be read.
+#[derive(Clone, Copy, Debug, PartialEq, Eq)]
+pub enum NamesRefusal {
+    /// The bytes of the table of names of aggregates can't be had.
+    Unreadable,
+    /// It has more bytes than it may.
+    TooLarge,
+    /// What is wrong with a record of it. Records are numbered from 1, the header is the first.
+    Record { row: u32, kind: TableKind },
+    /// Why a name in the pair of this number stands for nothing. Pairs are numbered from 1.
+    Pair(u32, NameFault),
+    /// Why a name of the token stands for no provider.
+    Token(NameFault),
+    /// A growth was refused.
+    NoMemory,
+}
+
 /// Why an answer of the service can't be compared.
 #[derive(Clone, Copy, Debug, PartialEq, Eq)]
 pub enum AnswerRefusal {
@@ -108,6 +126,7 @@ pub enum AnswerRefusal {
 pub enum Refusal {
     Tables(TablesRefusal),
     Asked(AskRefusal),
+    Names(NamesRefusal),
     /// The output can't be written.
     Output,
     /// The search made as many tries as it may.

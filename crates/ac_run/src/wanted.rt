@@ -1,6 +1,6 @@
 //! What a job wants of a cloud: its query and its token read, and its host found.
 
-ghost use Rattle.std.specs.Prelude.{◌≡◌, ◌<◌, ℕ, IfOk, IfErr, IfSome, List, Ok, OnOk, Option, Some, None, length, true};
+ghost use Rattle.std.specs.Prelude.{◌≡◌, ◌<◌, ℕ, IfOk, IfErr, IfSome, List, Ok, OnOk, Option, Some, None, is_some, length, true};
 ghost use Rattle.std.specs.Option.{option_map};
 ghost use Rattle.ac_cloud.specs.Cloud.CloudWorld.{providers_of, world_of};
 ghost use Rattle.ac_cloud.specs.Cloud.Hosts.{host_of};
@@ -12,7 +12,7 @@ ghost use Rattle.ac_query.specs.Pairs.{pairs_of};
 ghost use Rattle.ac_query.specs.Pairs.Values.{ids_value};
 ghost use Rattle.ac_query.specs.Shown.Queries.{asked_of};
 ghost use Rattle.ac_query.specs.Tokens.{ids_of, token_fault};
-ghost use Rattle.ac_run.specs.Answer.{Says, answer_in, at_host, ids_given, past_token, root_named, said_by, zone_named};
+ghost use Rattle.ac_run.specs.Answer.{Says, answer_in, at_host, ids_given, manner_of, past_token, root_named, said_by, zone_named};
 ghost use Rattle.ac_run.specs.Compared.{answer_read};
 ghost use Rattle.ac_run.specs.Compared.Answers.{texts_in};
 ghost use Rattle.ac_run.specs.Comparing.{answer_refused};
@@ -21,9 +21,10 @@ ghost use Rattle.ac_run.specs.declared.refusal.AskRefusal.TheVariants as AskRefu
 ghost use Rattle.ac_run.specs.Notes.{note_to, noted_by};
 ghost use Rattle.ac_run.specs.Stops.{AnswerMayStop, SearchMayStop};
 ghost use Rattle.ac_run.specs.Tasks.{command_shown, task_of, token_in};
-ghost use Rattle.ac_run.specs.Wanted.{ExplainsAnswer, ExplainsAt, ExplainsHost, ExplainsPage, ExplainsQuery, ExplainsRest, ExplainsToken, ExplainsWanted, IsSound, answer_to, details_in};
+ghost use Rattle.ac_run.specs.Wanted.{ExplainsAnswer, ExplainsAt, ExplainsHost, ExplainsPage, ExplainsQuery, ExplainsRest, ExplainsToken, ExplainsWanted, IsSound, answer_to};
 
 pub mod mark;
+pub(crate) mod named;
 
 use crate::capacity::flavors::{Plan, read_plans};
 use crate::job::{Command, Job};
@@ -219,8 +220,9 @@ fn read_compared(alloc: Global, bytes: &[u8]) -> Result<ServiceAnswer, AskRefusa
 fn wanted_of(alloc: Global, job: &Job, cloud: &Cloud, query: Query) -> Result<Wanted, AskRefusal>
     requires read { asked_of query ≡ asked_by job.now.version (pairs_of job.now.query.now) }
     requires units { asks_units (asked_of query) ≡ true }
-    ensures wanted { IfOk result (λ wanted. answer_to wanted (world_of cloud.now)
-        ≡ past_token (said_by (command_shown job.now.command) (details_in (task_of job.now))
+    ensures wanted { IfOk result (λ wanted. answer_to (is_some (task_of job.now).names) wanted
+        (world_of cloud.now)
+        ≡ past_token (said_by (command_shown job.now.command) (manner_of (task_of job.now))
         (world_of cloud.now)) (token_in (command_shown job.now.command)) (asked_of query)) }
     ensures sound { IfOk result (IsSound (providers_of cloud.now)) }
     ensures note { IfOk result (λ wanted. note_to wanted (world_of cloud.now)
@@ -263,7 +265,8 @@ fn wanted_of(alloc: Global, job: &Job, cloud: &Cloud, query: Query) -> Result<Wa
 /// What a job wants: its query is read, then its token, and its host is looked for.
 pub fn read_wanted(alloc: Global, job: &Job, cloud: &Cloud) -> Result<Wanted, AskRefusal>
     ensures wanted { IfOk result (λ wanted. answer_in (task_of job.now) (world_of cloud.now)
-        ≡ answer_to wanted (world_of cloud.now)) }
+        ≡ answer_to (is_some (task_of job.now).names) wanted
+        (world_of cloud.now)) }
     ensures sound { IfOk result (IsSound (providers_of cloud.now)) }
     ensures note { IfOk result (λ wanted. note_to wanted (world_of cloud.now)
         ≡ noted_by (command_shown job.now.command) (world_of cloud.now)

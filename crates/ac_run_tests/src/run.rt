@@ -354,6 +354,7 @@ fn left_by(rt: &(impl Abort + AllocGlobal), case: &Case, turns: Turns) -> Result
         version: case.version,
         tries: None,
         changes: None,
+        names: None,
         detail: if turns.detail { Some(&PATHS) } else { None },
     };
     run_over(alloc, &case.rows, &job, turns)

@@ -85,7 +85,7 @@ fn write_by<S: Source, W: Sink>(
 {
     match writer {
         Writer::Page => write_page(alloc, cloud, query, source, out),
-        Writer::Tokens => write_tokens(alloc, cloud, query, source, out),
+        Writer::Tokens => write_tokens(alloc, cloud, None, query, source, out),
         Writer::List => write_list(alloc, cloud, query, true, source, out),
     }
 }

@@ -25,7 +25,7 @@ use Rattle.ac_rules.specs.declared.verdict.Verdict.{Verdict}
 use Rattle.ac_rules.specs.declared.verdict.Verdict.TheVariants as verdict
 use Rattle.ac_run.proofs.Assignments.{located}
 use Rattle.ac_run.proofs.Attempted.{asks_query, host_refused}
-use Rattle.ac_run.specs.Answer.{Outcome, Says, answer_in, past_query, refused}
+use Rattle.ac_run.specs.Answer.{Outcome, Says, answer_in, manner_of, past_query, refused}
 use Rattle.ac_run.specs.Outputs.{fill_status}
 use Rattle.ac_run.specs.Refusals.{line_of_asked, status_of_asked}
 use Rattle.ac_run.specs.Run.{Delivers}
@@ -57,7 +57,7 @@ pub delivers_stopped : {May : Type 0} {o : Outcome} {r : Result ℕ PageFault} {
 delivers_stopped done = record { few = done.few; ok = done.ok; part = done.part; failed = done.failed; stopped = λ e. e; failures = done.failures }
 
 -- nothing is refused that is searched for
-pub not_refused : (wanted : Wanted) (tries : Option ℕ) (world : World) → AnswerMayStop wanted tries world.providers → (answer_to wanted world).line ≡ []
+pub not_refused : (wanted : Wanted) (tries : Option ℕ) (world : World) → AnswerMayStop wanted tries world.providers → (answer_to false wanted world).line ≡ []
 not_refused wanted.Counts tries world may = absurd may
 not_refused (wanted.Body page traits) tries world may = refl
 not_refused (wanted.Lines page) tries world may = refl
@@ -95,7 +95,7 @@ pub wanted_refused : (task : Task) (world : World) (refusal : AskRefusal) → Ex
 wanted_refused task world (ask.Query f) h told = asks_query task.command _ task.version task.query world h.0 ∙ rw (h.1.2, h.1.1) refl
 wanted_refused task world (ask.Token f) h told = asks_query task.command _ task.version task.query world h.0 ∙ rw (h.1, h.2) refl
 wanted_refused task world (ask.Host f) h told =
-    asks_query task.command _ task.version task.query world h.0 ∙ rw h.1 (host_refused task.command (is_some task.detail) world (asked_by task.version (pairs_of task.query)) h.2.0 f h.2.1 h.2.2 h.2.3)
+    asks_query task.command _ task.version task.query world h.0 ∙ rw h.1 (host_refused task.command (manner_of task) world (asked_by task.version (pairs_of task.query)) h.2.0 f h.2.1 h.2.2 h.2.3)
 wanted_refused task world (ask.Flavors f) h told = rw (h.2, h.3) refl
 wanted_refused task world (ask.Answer f) h told = asks_query task.command _ task.version task.query world h.0 ∙ rw (h.1, h.2.1, h.2.2) refl
 wanted_refused task world ask.NoMemory h told = absurd (told refl)

@@ -107,7 +107,7 @@ pub data Asked : Type 0 where
 
 -- a command over a query, of which no more is told
 abbrev pub asks_job : Command → Text → Version → Asked
-asks_job command query version = job (record { command = command; query = query; version = version; tries = None; changes = None; detail = None })
+asks_job command query version = job (record { command = command; query = query; version = version; tries = None; changes = None; names = None; detail = None })
 
 -- what words ask, unless their number is wrong
 abbrev pub asks : {A : Type 0} → Option A → (A → Asked) → Asked

@@ -12,14 +12,14 @@ use Rattle.ac_search.specs.Shown.Walk.{MayStop}
 use Rattle.ac_session.specs.Held.{Held}
 use Rattle.ac_session.specs.Lines.{Given, line, too_long, end}
 use Rattle.ac_session.specs.Questions.{Asked, Text, job, fill, place, claim, release, release_name, move, mark, back, usages, left_at, help, nothing, unknown, wrong_number, asked_of}
-use Rattle.ac_session.specs.Turns.{Turn, answers, lines_in, output_of, place_line, session_text, text_of, turn_of}
+use Rattle.ac_session.specs.Turns.{Turn, answers, lines_in, output_of, place_line, session_text, text_of, turn_of, unnamed_task}
 
 -- ---- which may stop
 
 -- A search of a task may stop, with so many tries, where nothing of it is refused.
 abbrev pub JobMayStop : Option ℕ → World → Task → Type 0
 JobMayStop tries world task =
-    SearchMayStop task.command task.version tries world.providers (asked_by task.version (pairs_of task.query)) × ((answer_in task world).line ≡ [])
+    SearchMayStop task.command task.version tries world.providers (asked_by task.version (pairs_of task.query)) × ((answer_in (unnamed_task task) world).line ≡ [])
 
 -- the search for placements
 abbrev pub FillMayStop : Option ℕ → Version → World → Text → Type 0

@@ -22,6 +22,7 @@ use Rattle.ac_query.specs.Tokens.{ids_text, token_fault}
 use Rattle.ac_search.specs.At.{rest_at}
 use Rattle.ac_run.specs.Answer.{Outcome, Says, answer_in, at_host, fills, past_query, refused, root_named, told, written}
 use Rattle.ac_run.specs.Lines.{token_line}
+use Rattle.ac_run.specs.Tasks.{Task}
 use Rattle.ac_run.specs.Outputs.{verdict_text}
 use Rattle.ac_session.specs.Frames.{end_line, lines_written}
 use Rattle.ac_session.specs.Questions.LineFaults.{fault_line, fault_status}
@@ -262,9 +263,13 @@ back_turn held = back_to held held.marks
 
 -- ---- turns
 
+-- a task as a session reads it: by UUIDs
+abbrev pub unnamed_task : Task → Task
+unnamed_task task = record task { names = None }
+
 -- the turn of what is asked
 abbrev pub turn_asked : Version → Held → Asked → Turn Held
-turn_asked version held (job task) = answers held (answer_in task held.world)
+turn_asked version held (job task) = answers held (answer_in (unnamed_task task) held.world)
 turn_asked version held (fill query) = within held (fill_turn version query held.world)
 turn_asked version held (place query None host) = within held (place_turn version query host held.world)
 turn_asked version held (place query (Some name) host) = named_place_turn version query host name held

@@ -242,6 +242,7 @@ fn job<'a>(command: Command<'a>, query: &'a str, version: Version) -> Question<'
         version,
         tries: None,
         changes: None,
+        names: None,
         detail: None,
     })
 }

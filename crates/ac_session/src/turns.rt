@@ -26,7 +26,7 @@ ghost use Rattle.ac_session.specs.LeftRows.{left_answer};
 ghost use Rattle.ac_session.specs.Lines.{Given};
 ghost use Rattle.ac_session.specs.Reading.{given_by};
 ghost use Rattle.ac_session.specs.Tries.{AskedMayStop, FillMayStop, GivenMayStop, JobMayStop, PlaceMayStop};
-ghost use Rattle.ac_session.specs.Turns.{after_fill, back_turn, claim_said, claim_turn, fill_turn, mark_turn, move_said, move_turn, place_turn, places_named, release_said, release_turn, settles, turn_asked, turn_of};
+ghost use Rattle.ac_session.specs.Turns.{after_fill, back_turn, claim_said, claim_turn, fill_turn, mark_turn, move_said, move_turn, place_turn, places_named, release_said, release_turn, settles, turn_asked, turn_of, unnamed_task};
 ghost use Rattle.ac_session.specs.UsageRows.{usage_rows};
 ghost use Rattle.ac_session.specs.declared.endings.AnswerFault.TheVariants as AnswerFault;
 
@@ -70,12 +70,16 @@ fn answer_job<W: Sink>(
     out: &mut W,
 ) -> Result<Ending, AnswerFault>
     ensures { Gives (JobMayStop tries (world_of cloud.now) (task_of job.entry))
-        (Some (answer_in (task_of job.entry) (world_of cloud.now))) result
+        (Some (answer_in (unnamed_task (task_of job.entry)) (world_of cloud.now))) result
         (W.taken out.old) (W.taken out.new) (W.failures out.old) (W.failures out.new) }
 {
-    let job = Job { tries, ..job };
+    let job = Job {
+        tries,
+        names: None,
+        ..job
+    };
     match read_wanted(alloc, &job, cloud) {
-        Ok(wanted) => given(write_answer(alloc, cloud, &wanted, tries, out)),
+        Ok(wanted) => given(write_answer(alloc, cloud, None, &wanted, tries, out)),
         Err(refusal) => refused(refusal),
     }
 }
@@ -292,7 +296,7 @@ fn write_placements<'a, W: Sink>(
         return Err(PageFault::NoMemory);
     };
     let mut source = source.within(tries);
-    write_filled(alloc, cloud, query, &mut source, out)
+    write_filled(alloc, cloud, None, query, &mut source, out)
 }
 
 // The placements of a query, each of which is claimed, and their status. Where their search stops, none is.

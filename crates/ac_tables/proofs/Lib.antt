@@ -8,5 +8,6 @@ mod Literals
 pub mod UsageRows
 pub mod StatedWorld
 pub mod ProvidersStated
-pub mod FlavorFaults
+pub mod BesideFaults
+pub mod WrittenRows
 pub mod FoundRows

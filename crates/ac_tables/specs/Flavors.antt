@@ -1,16 +1,16 @@
 -- The table of flavors: their names, what each asks for, and how many of it are wanted.
-use Rattle.std.specs.Prelude.{◌≡◌, ⊤, ℕ, ◌+◌, List, [], ◌∷◌, Option, Some, None}
-use Rattle.std.specs.Option.{is_none, option_map, option_or, unwrap_or}
+use Rattle.std.specs.Prelude.{ℕ, List, [], ◌∷◌, Option, Some}
+use Rattle.std.specs.Option.{is_none, unwrap_or}
 use Rattle.ac_base.specs.Texts.{count_value}
-use Rattle.ac_tables.specs.Tables.Checks.{Row, Check, first_failing}
-use Rattle.ac_tables.specs.Tables.Columns.{bad_width, header_kind, said_by, text_in, text_or_none}
+use Rattle.ac_tables.specs.Beside.{beside_fault}
+use Rattle.ac_tables.specs.Tables.Checks.{Row, Check}
+use Rattle.ac_tables.specs.Tables.Columns.{bad_width, said_by, text_in, text_or_none}
 use Rattle.ac_tables.specs.Tables.Names.{name_of}
+use Rattle.ac_tables.specs.declared.columns.Column.{Column}
 use Rattle.ac_tables.specs.declared.columns.Column.TheVariants as column
 use Rattle.ac_tables.specs.declared.fault.TableKind.{TableKind}
 use Rattle.ac_tables.specs.declared.fault.TableKind.TheVariants as kind
 use Rattle.ac_tables.specs.declared.flavors.Flavor as rust
-use Rattle.ac_tables.specs.declared.flavors.FlavorFault.{FlavorFault}
-use Rattle.ac_tables.specs.declared.flavors.FlavorFault.TheVariants as fault
 
 -- a flavor: its name, its query, and how many of it are wanted
 pub record Flavor : Type 0 where
@@ -19,8 +19,8 @@ pub record Flavor : Type 0 where
   pub wanted : ℕ
 
 -- the needed columns, in the order in which they are checked
-abbrev pub flavor_columns : List (List ℕ)
-flavor_columns = name_of column.Flavor ∷ name_of column.Query ∷ []
+abbrev pub flavor_columns : List Column
+flavor_columns = column.Flavor ∷ column.Query ∷ []
 
 -- how many are wanted: one, where nothing is said
 abbrev pub wanted_value : List ℕ → Option ℕ
@@ -42,19 +42,9 @@ flavor_said header row = record {
 unfoldable pub flavor_checks : Row → Row → List Check
 flavor_checks header row = bad_width header row ∷ (is_none (wanted_in header row), kind.BadNumber) ∷ []
 
--- the first record with a fault, of some of which the first has this number
-abbrev pub first_bad : (Row → List Check) → ℕ → List Row → Option (ℕ × TableKind)
-first_bad checks number [] = None
-first_bad checks number (row ∷ rows) = option_or (option_map (λ kind. (number, kind)) (first_failing (checks row))) (first_bad checks (number + 1) rows)
-
--- of the records behind a header, which is the first
-abbrev pub records_bad : List Row → Option (ℕ × TableKind)
-records_bad [] = None
-records_bad (header ∷ rows) = first_bad (flavor_checks header) 2 rows
-
 -- the first fault of the table, by the number of its record
 unfoldable pub flavors_fault : List Row → Option (ℕ × TableKind)
-flavors_fault rows = option_or (option_map (λ kind. (1, kind)) (header_kind flavor_columns rows)) (records_bad rows)
+flavors_fault rows = beside_fault flavor_columns flavor_checks rows
 
 -- all that the table says, in the order of its records
 unfoldable pub flavors_said : List Row → List Flavor
@@ -64,8 +54,3 @@ flavors_said rows = said_by flavor_said rows
 
 abbrev pub flavor_shown : rust.Flavor → Flavor
 flavor_shown f = record { name = f.name.items; query = f.query.items; wanted = f.wanted }
-
--- the fault is told, or a growth was refused
-abbrev pub TellsFlavor : Option (ℕ × TableKind) → FlavorFault → Type 0
-TellsFlavor first (fault.At row kind) = first ≡ Some (row, kind)
-TellsFlavor first fault.NoMemory = ⊤

@@ -3,6 +3,8 @@
 //! It knows nothing of queries or of searches.
 #![tactic(auto)]
 
+pub mod beside;
+pub mod called;
 pub mod columns;
 pub mod fault;
 pub mod flavors;
@@ -15,9 +17,11 @@ mod tables;
 pub mod written;
 
 pub use ac_cloud::{Cloud, Counts, Entry, HostFault};
+pub use beside::BesideFault;
+pub use called::{Called, read_called};
 pub use columns::{Column, columns_needed};
 pub use fault::{Table, TableFault, TableKind};
-pub use flavors::{Flavor, FlavorFault, read_flavors};
+pub use flavors::{Flavor, read_flavors};
 pub use found::Found;
 pub use read::{FiveTables, FromTables, Sources};
 pub use reader::records::{next_row, open_rows, text_at};

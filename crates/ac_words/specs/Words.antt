@@ -84,8 +84,9 @@ with_tries app = with_rule (with_options app) (option_rule (codes "tries"))
 abbrev pub with_format : App → App
 with_format app = with_rule app (record (option_rule (codes "format")) { short = Some 102 })
 
+-- a command with a query, in which names may stand in place of UUIDs
 abbrev pub query_app : Text → App
-query_app name = with_rule (new_app name) (word_rule (codes "query"))
+query_app name = with_rule (with_rule (new_app name) (word_rule (codes "query"))) (flag_rule (codes "names"))
 
 abbrev pub check_app : App
 check_app = with_common (new_app (codes "check"))
@@ -330,6 +331,8 @@ pub record Line : Type 0 where
   pub tries : Option ℕ
   pub form : Form
   pub changes : Option Text
+  pub names : Bool
+  pub aggregate_names : Option Text
   pub detail : Bool
   pub paths : Paths
 
@@ -350,19 +353,20 @@ abbrev pub calls_answer : Call → Bool
 calls_answer (beside path query) = true
 calls_answer _ = false
 
--- the task of a command and a query, with these changes, and with these paths where more is told
-abbrev pub task_for : Line → Option Text → Option Paths → Command → Text → Task
-task_for line changes detail command query =
-    record { command = command; query = query; version = line.version; tries = line.tries; changes = changes; detail = detail }
+-- the task of a command and a query, with these changes, with this table of names of aggregates, and with these paths where more is told
+abbrev pub task_for : Line → Option Text → Option Text → Option Paths → Command → Text → Task
+task_for line changes names detail command query =
+    record { command = command; query = query; version = line.version; tries = line.tries; changes = changes; names = names; detail = detail }
 
--- the task that they ask for, with these bytes of that file, with these changes, and with these paths where more is told; none where they ask for a session
-abbrev pub task_in : Line → Text → Option Text → Option Paths → Option Task
-task_in line file changes detail = task_called line.call
+-- the task that they ask for, with these bytes of that file, with these changes, with this table of names of aggregates, and with these paths where more is told; none
+-- where they ask for a session
+abbrev pub task_in : Line → Text → Option Text → Option Text → Option Paths → Option Task
+task_in line file changes names detail = task_called line.call
   where
     task_called : Call → Option Task
-    task_called (plan path metrics) = Some (task_for line changes detail (capacity file metrics) [])
-    task_called (beside path query) = Some (task_for line changes detail (compare file) query)
-    task_called (job command query) = Some (task_for line changes detail command query)
+    task_called (plan path metrics) = Some (task_for line changes names detail (capacity file metrics) [])
+    task_called (beside path query) = Some (task_for line changes names detail (compare file) query)
+    task_called (job command query) = Some (task_for line changes names detail command query)
     task_called session = None
 
 -- a command with its query, without the path of a URL before it
@@ -415,6 +419,14 @@ call_of name.Session rows = Some session
 abbrev pub detail_of : List Row → Bool
 detail_of rows = is_set (first_of (codes "detail") rows)
 
+-- whether names stand in place of UUIDs
+abbrev pub names_of : List Row → Bool
+names_of rows = is_set (first_of (codes "names") rows)
+
+-- the path of the table of names of aggregates, where a folder is given
+abbrev pub aggregate_names_of : List Row → Option Text
+aggregate_names_of rows = option_map (λ folder. folder ++ codes "/aggregate-names.csv") (folder_of rows)
+
 -- the path of a table's file in the folder
 abbrev pub path_in : Text → Table → Text
 path_in folder table = folder ++ codes "/" ++ table_name table ++ codes ".csv"
@@ -463,6 +475,8 @@ pub record IsMadeOf (name : Name) (rows : List Row) (line : Line) : Type 0 where
   pub tries : tries_of rows ≡ Some line.tries
   pub form : form_of rows ≡ Some line.form
   pub changes : first_of (codes "change") rows ≡ line.changes
+  pub names : names_of rows ≡ line.names
+  pub aggregate_names : aggregate_names_of rows ≡ line.aggregate_names
   pub detail : detail_of rows ≡ line.detail
   pub paths : needed_paths name rows ≡ Some line.paths
 

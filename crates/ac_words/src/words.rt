@@ -40,6 +40,8 @@ pub struct Words<'a> {
     tries: Option<u64>,
     form: Form,
     changes: Option<&'a str>,
+    names: bool,
+    aggregate_names: Option<String>,
     detail: bool,
     paths: FiveTables<String>,
 }
@@ -53,22 +55,25 @@ impl<'a> Model for Words<'a> {
       tries = w.tries;
       form = w.form;
       changes = option_map (λ t. t.now) w.changes;
+      names = w.names;
+      aggregate_names = option_map string_bytes w.aggregate_names;
       detail = w.detail;
       paths = paths_kept w.paths;
     } };
 }
 
 impl<'a> Words<'a> {
-    /// The job that the words ask for, with these bytes of the file that is read beside the tables, with these changes, and with these paths where more is
-    /// told; none where they ask for a session.
+    /// The job that the words ask for, with these bytes of the file that is read beside the tables, with these changes, with this table of names of aggregates,
+    /// and with these paths where more is told; none where they ask for a session.
     pub fn job<'b>(
         &'b self,
         file: &'b [u8],
         changes: Option<&'b [u8]>,
+        names: Option<&'b [u8]>,
         detail: Option<&'b Paths<'b>>,
     ) -> Option<Job<'b>>
-        ensures { option_map task_of result
-            ≡ task_in self.now file.now (changes_shown changes.entry) (detail_shown detail.entry) }
+        ensures { option_map task_of result ≡ task_in self.now file.now
+            (changes_shown changes.entry) (changes_shown names.entry) (detail_shown detail.entry) }
     {
         let (command, query) = match self.call {
             Call::Job(command, query) => (command, query),
@@ -85,6 +90,7 @@ impl<'a> Words<'a> {
             version: self.version,
             tries: self.tries,
             changes,
+            names,
             detail,
         })
     }
@@ -145,6 +151,20 @@ impl<'a> Words<'a> {
         ensures { option_map (λ path. path.now) result ≡ self.now.changes }
     {
         self.changes
+    }
+
+    /// Whether names stand in place of UUIDs.
+    pub fn names(&self) -> bool
+        ensures { result ≡ self.now.names }
+    {
+        self.names
+    }
+
+    /// The path of the table of names of aggregates, where a folder of tables was given.
+    pub fn aggregate_names(&self) -> Option<&str>
+        ensures { option_map (λ path. path.now) result ≡ self.now.aggregate_names }
+    {
+        self.aggregate_names.as_deref()
     }
 
     /// Whether more is said: below the line of a fault what to do about it, of a verdict of what a rule is broken, and behind an answer where the service

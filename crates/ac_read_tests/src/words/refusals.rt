@@ -33,7 +33,7 @@ fn session(rt: HostRuntime) {
     };
     match read_words(rt.alloc(), given.as_slice()) {
         Ok(words) => {
-            assert!(rt; words.job(b"", None, None).is_none());
+            assert!(rt; words.job(b"", None, None, None).is_none());
             assert!(rt; words.version() == Version::V139);
             assert_eq!(rt; words.path(Table::Usages), Some("a/usages.csv"));
         }

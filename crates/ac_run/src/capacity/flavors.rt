@@ -13,7 +13,7 @@ ghost use Rattle.ac_tables.specs.Flavors.{flavor_shown};
 use crate::refusal::{AskRefusal, FlavorsRefusal};
 use crate::wanted;
 use ac_query::{Query, Version};
-use ac_tables::{Flavor, FlavorFault, read_flavors};
+use ac_tables::{BesideFault, Flavor, read_flavors};
 use std::alloc::Global;
 
 /// The most bytes of a table of flavors: 64 MiB, as of every table.
@@ -104,9 +104,9 @@ pub(crate) fn read_plans(
     }
     match read_flavors(alloc, text) {
         Ok(flavors) => read_each(alloc, &flavors, version),
-        Err(FlavorFault::At { row, kind }) => {
+        Err(BesideFault::At { row, kind }) => {
             Err(AskRefusal::Flavors(FlavorsRefusal::Record { row, kind }))
         }
-        Err(FlavorFault::NoMemory) => Err(AskRefusal::NoMemory),
+        Err(BesideFault::NoMemory) => Err(AskRefusal::NoMemory),
     }
 }

@@ -1,16 +1,17 @@
 //! Placements one after another, each written with its status: their tokens, or how many there are.
 
-ghost use Rattle.std.specs.Prelude.{◌≡◌, ◌≤◌, ℕ, List, Err, false, IfOk, None, map, string_bytes, true};
+ghost use Rattle.std.specs.Prelude.{◌≡◌, ◌≤◌, ℕ, List, Err, false, IfOk, IfSome, None, is_some, map, string_bytes, true};
 ghost use Rattle.ac_cloud.specs.Cloud.CloudWorld.{providers_of};
 ghost use Rattle.ac_fill.specs.Bounds.{most_placed, shorts};
 ghost use Rattle.ac_fill.specs.Filled.{asks_units};
 ghost use Rattle.ac_fill.specs.Found.{short_entry};
 ghost use Rattle.ac_prune.specs.Fitting.{fitting};
 ghost use Rattle.ac_query.specs.Shown.Queries.{asked_of};
+ghost use Rattle.ac_report.specs.Called.{AreCalled, providers_called};
 ghost use Rattle.ac_report.specs.Pages.{IsAssignment};
 ghost use Rattle.ac_rules.specs.Pages.{rest};
 ghost use Rattle.std.specs.List.{All};
-ghost use Rattle.ac_run.specs.Answer.{fills};
+ghost use Rattle.ac_run.specs.Answer.{fills, fills_by};
 ghost use Rattle.ac_run.specs.Capacity.{placed_first};
 ghost use Rattle.ac_run.specs.Outputs.{counted, fill_status};
 ghost use Rattle.ac_run.specs.Run.{Delivers};
@@ -21,7 +22,7 @@ use crate::outputs::{push_text, sum_line};
 use ac_base::{NoMemory, Sink};
 use ac_fill::{Bound, count_filled, write_filled};
 use ac_query::Query;
-use ac_report::PageFault;
+use ac_report::{Names, PageFault};
 use ac_search::{SearchFault, Source, Walk, fitting_roots};
 use ac_tables::Cloud;
 use std::alloc::Global;
@@ -51,22 +52,26 @@ pub(crate) fn walk_all<'a>(
     Ok(Walk::new(alloc, cloud, query, None)?.within(tries))
 }
 
-// The tokens of placements.
+// The tokens of placements, or their names.
 #[tactic(auto, using(crate::proofs::Delivering::refused, ac_fill::proofs::Ordered::all_rest))]
 fn write_placements<W: Sink>(
     alloc: Global,
     cloud: &Cloud,
+    names: Option<&Names<'_>>,
     query: &Query,
     tries: Option<u64>,
     out: &mut W,
 ) -> Result<u8, PageFault>
-    requires { asks_units (asked_of query.now) ≡ true }
-    ensures { Delivers (fills (providers_of cloud.now) false (asked_of query.now) None)
+    requires units { asks_units (asked_of query.now) ≡ true }
+    requires names { IfSome names (λ names.
+        AreCalled (providers_called (providers_of cloud.now)) names.now) }
+    ensures { Delivers (fills_by (is_some names.entry) (providers_of cloud.now) false
+        (asked_of query.now) None)
         (MayStop tries (providers_of cloud.now) (asked_of query.now) None) result
         (W.taken out.old) (W.taken out.new) (W.failures out.old) (W.failures out.new) }
 {
     let mut source = walk_all(alloc, cloud, query, tries)?;
-    let filled = write_filled(alloc, cloud, query, &mut source, out)?;
+    let filled = write_filled(alloc, cloud, names, query, &mut source, out)?;
     Ok(fill_status(query.limit(), filled.count))
 }
 
@@ -150,23 +155,27 @@ fn write_sum<W: Sink>(
     push_text(out, line.as_bytes(), status)
 }
 
-/// Placements one after another: their tokens, or how many there are and how many there can be at most.
+/// Placements one after another: their tokens, by UUIDs or by names, or how many there are and how many there can be at most.
 pub(crate) fn write_fill<W: Sink>(
     alloc: Global,
     cloud: &Cloud,
+    names: Option<&Names<'_>>,
     query: &Query,
     sum: bool,
     tries: Option<u64>,
     out: &mut W,
 ) -> Result<u8, PageFault>
-    requires { asks_units (asked_of query.now) ≡ true }
-    ensures { Delivers (fills (providers_of cloud.now) sum (asked_of query.now) None)
+    requires units { asks_units (asked_of query.now) ≡ true }
+    requires names { IfSome names (λ names.
+        AreCalled (providers_called (providers_of cloud.now)) names.now) }
+    ensures { Delivers (fills_by (is_some names.entry) (providers_of cloud.now) sum
+        (asked_of query.now) None)
         (MayStop tries (providers_of cloud.now) (asked_of query.now) None) result
         (W.taken out.old) (W.taken out.new) (W.failures out.old) (W.failures out.new) }
 {
     if sum {
         write_sum(alloc, cloud, query, tries, out)
     } else {
-        write_placements(alloc, cloud, query, tries, out)
+        write_placements(alloc, cloud, names, query, tries, out)
     }
 }

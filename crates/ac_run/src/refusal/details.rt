@@ -1,7 +1,7 @@
 //! What stands behind the line of a refusal where more is told: what is to be done.
 ghost use Rattle.std.specs.Prelude.{◌≡◌, IfOk, None};
 ghost use Rattle.ac_run.specs.Changing.{change_remedy};
-ghost use Rattle.ac_run.specs.Details.{answer_remedy, asked_remedy, behind, changes_remedy, fault_remedy, path_in, reading_remedy};
+ghost use Rattle.ac_run.specs.Details.{answer_remedy, asked_remedy, behind, changes_remedy, fault_remedy, names_remedy, path_in, reading_remedy};
 ghost use Rattle.ac_run.specs.Flavors.{why_shown};
 ghost use Rattle.ac_run.specs.Feeds.Draining.{texts_shown};
 ghost use Rattle.ac_run.specs.Feeds.{too_large};
@@ -13,13 +13,16 @@ use crate::inputs::Texts;
 use crate::job::{Job, Paths};
 use crate::ready::sources_of;
 use crate::refusal::lines::push_query_line;
-use crate::refusal::{AnswerRefusal, AskRefusal, ChangesRefusal, FlavorsRefusal, TablesRefusal};
+use crate::refusal::{
+    AnswerRefusal, AskRefusal, ChangesRefusal, FlavorsRefusal, NamesRefusal, TablesRefusal,
+};
 use ac_base::ToWrite;
 use ac_change::ChangeKind;
 use ac_query::{Query, TokenFault};
 use ac_remedies::{
     host_remedy, query_remedy, record_remedy, size_remedy, token_remedy, unread_remedy,
 };
+use ac_report::NameFault;
 use ac_tables::Table;
 use std::alloc::{AllocError, Global};
 
@@ -112,6 +115,41 @@ pub(crate) fn changes_detail(
             change_remedy(*kind).to_vec(alloc)
         }
         _ => Ok(Vec::new(alloc)),
+    }
+}
+
+// What is to be done about names that can't be read.
+#[tactic(auto, unfolding(crate::specs::Details::names_remedy))]
+fn names_remedy(refusal: NamesRefusal) -> &'static [u8]
+    ensures { result.now ≡ names_remedy refusal }
+{
+    match refusal {
+        NamesRefusal::Record { .. } => {
+            b"  Each record is the UUID of an aggregate and a name of it, behind the header uuid,name.\n"
+        }
+        NamesRefusal::Pair(_, NameFault::Unknown) => {
+            b"  No provider has this name (in_tree), or no aggregate (member_of): their names stand in aggregate-names.csv.\n"
+        }
+        NamesRefusal::Token(NameFault::Unknown) => b"  No provider has this name.\n",
+        NamesRefusal::Pair(_, NameFault::Ambiguous) | NamesRefusal::Token(NameFault::Ambiguous) => {
+            b"  Several have this name; write the UUID of one.\n"
+        }
+        NamesRefusal::Unreadable | NamesRefusal::TooLarge | NamesRefusal::NoMemory => b"",
+    }
+}
+
+/// Of names that can't be read.
+pub(crate) fn names_detail(
+    alloc: Global,
+    detail: Option<&Paths>,
+    refusal: NamesRefusal,
+) -> Result<Vec<u8>, AllocError>
+    ensures text { IfOk result (λ text. text.items
+        ≡ behind (detail_shown detail.entry) (λ _. names_remedy refusal)) }
+{
+    match detail {
+        Some(_) => names_remedy(refusal).to_vec(alloc),
+        None => Ok(Vec::new(alloc)),
     }
 }
 

@@ -3,17 +3,19 @@ ghost use Rattle.std.specs.Prelude.{◌≡◌, ◌≤◌, ◌++◌};
 ghost use Rattle.ac_query.specs.Shown.Faults.{fault_shown};
 ghost use Rattle.ac_run.specs.Changing.{change_line, change_name};
 ghost use Rattle.ac_run.specs.Flavors.{flavor_line, query_told, why_shown};
-ghost use Rattle.ac_run.specs.Lines.{answer_line, group_line, line_at, pair_line, record_line};
-ghost use Rattle.ac_run.specs.Refusals.{changes_line, line_of, line_of_asked, line_of_tables, line_told, status_of, status_of_asked, status_told};
+ghost use Rattle.ac_run.specs.Lines.{answer_line, called_line, group_line, line_at, name_fault, names_line, pair_line, record_line};
+ghost use Rattle.ac_run.specs.Refusals.{changes_line, line_of, line_of_asked, line_of_tables, line_told, status_of, status_of_asked, status_of_names, status_told};
 ghost use Rattle.ac_base.specs.Writing.{Pushes, TakesLine};
 
 use crate::refusal::{
-    AnswerRefusal, AskRefusal, ChangesRefusal, FlavorsRefusal, Refusal, Refused, TablesRefusal,
+    AnswerRefusal, AskRefusal, ChangesRefusal, FlavorsRefusal, NamesRefusal, Refusal, Refused,
+    TablesRefusal,
 };
 use ac_base::{Digits, Sink, WriteFailed, push_all, push_pieces};
 use ac_change::ChangeKind;
 use ac_cloud::HostFault;
 use ac_query::{QueryFault, TokenFault};
+use ac_report::NameFault;
 use ac_tables::{Table, TableKind};
 use itoa::Buffer;
 
@@ -213,6 +215,40 @@ fn push_answer_line<E: Sink>(err: &mut E, refusal: AnswerRefusal) -> Result<(), 
     }
 }
 
+// The name of why a name stands for nothing.
+#[tactic(auto, unfolding(crate::specs::Lines::name_fault))]
+fn name_fault(fault: NameFault) -> &'static [u8]
+    ensures { result.now ≡ name_fault fault }
+{
+    match fault {
+        NameFault::Unknown => b"UnknownName",
+        NameFault::Ambiguous => b"AmbiguousName",
+    }
+}
+
+// The line of a record of the table of names of aggregates.
+#[tactic(auto, unfolding(crate::specs::Lines::aggregates_name, crate::specs::Lines::called_line))]
+fn push_called_line<E: Sink>(err: &mut E, row: u32, name: &[u8]) -> Result<(), WriteFailed>
+    ensures { Pushes E.taken E.failures err.old err.new result (called_line row name.now) }
+{
+    push_line_at(err, b"aggregate-names", row, name)
+}
+
+// The line of names that can't be read.
+#[tactic(auto, unfolding(crate::specs::Lines::memory_line, crate::specs::Lines::names_line))]
+fn push_names_line<E: Sink>(err: &mut E, refusal: NamesRefusal) -> Result<(), WriteFailed>
+    ensures { Pushes E.taken E.failures err.old err.new result (names_line refusal) }
+{
+    match refusal {
+        NamesRefusal::Unreadable => push_whole(err, b"aggregate-names: Unreadable\n"),
+        NamesRefusal::TooLarge => push_whole(err, b"aggregate-names: TooLarge\n"),
+        NamesRefusal::Record { row, kind } => { push_called_line(err, row, kind.name().as_bytes()) }
+        NamesRefusal::Pair(number, fault) => push_pair_line(err, number, name_fault(fault)),
+        NamesRefusal::Token(fault) => push_pieces(err, &[b"token: ", name_fault(fault), b"\n"]),
+        NamesRefusal::NoMemory => push_whole(err, b"out of memory\n"),
+    }
+}
+
 /// Pushes the line of what is asked and refused.
 #[tactic(auto, unfolding(crate::specs::Lines::token_line, crate::specs::Lines::host_line, crate::specs::Lines::memory_line))]
 pub fn push_asked_line<E: Sink>(err: &mut E, refusal: &AskRefusal) -> Result<(), WriteFailed>
@@ -239,6 +275,7 @@ fn push_line<E: Sink>(err: &mut E, refusal: &Refusal) -> Result<(), WriteFailed>
     match refusal {
         Refusal::Tables(refusal) => push_tables_line(err, refusal),
         Refusal::Asked(refusal) => push_asked_line(err, refusal),
+        Refusal::Names(refusal) => push_names_line(err, *refusal),
         Refusal::Output => push_whole(err, b"output: WriteFailed\n"),
         Refusal::TooManyTries => push_whole(err, b"search: TooManyTries\n"),
         Refusal::NoMemory => push_whole(err, b"out of memory\n"),
@@ -256,6 +293,18 @@ pub fn asked_status(refusal: &AskRefusal) -> u8
     }
 }
 
+// The status of names that can't be read.
+fn names_status(refusal: NamesRefusal) -> u8
+    ensures { result ≡ status_of_names refusal }
+{
+    match refusal {
+        NamesRefusal::Pair(..) => 4,
+        NamesRefusal::Token(_) => 5,
+        NamesRefusal::NoMemory => 7,
+        NamesRefusal::Unreadable | NamesRefusal::TooLarge | NamesRefusal::Record { .. } => 3,
+    }
+}
+
 // The status of a refusal.
 fn status_of(refusal: &Refusal) -> u8
     ensures { result ≡ status_of refusal.now }
@@ -264,6 +313,7 @@ fn status_of(refusal: &Refusal) -> u8
         Refusal::Tables(TablesRefusal::NoMemory) => 7,
         Refusal::Tables(_) => 3,
         Refusal::Asked(refusal) => asked_status(refusal),
+        Refusal::Names(refusal) => names_status(*refusal),
         Refusal::Output => 6,
         Refusal::TooManyTries => 8,
         Refusal::NoMemory => 7,

@@ -1,5 +1,5 @@
 -- The table of usages, written and read back.
-use Rattle.std.proofs.Common.{◌≡◌, ◌∙◌, ◌<◌, ◌≤◌, ◌+◌, ◌/◌, ◌%◌, ◌^◌, ◌==◌, ℕ, zero, suc, Bool, ◌&&◌, true, false, List, [], ◌∷◌, ◌++◌, map, length, get_or, reverse, Option, Some, None, Less, if◌then◌else◌, nat_le, refl, sym, ap, ap₂, arith, inl, inr, append-nil, length-append}
+use Rattle.std.proofs.Common.{◌≡◌, ◌∙◌, ◌<◌, ◌≤◌, ◌+◌, ◌/◌, ◌%◌, ◌^◌, ◌==◌, ℕ, zero, suc, Bool, ◌&&◌, true, false, List, [], ◌∷◌, ◌++◌, map, length, get_or, reverse, Option, Some, None, Less, nat_le, refl, sym, ap, ap₂, arith, inl, inr, append-nil, length-append}
 use Rattle.std.specs.Cmp.Lexicographic.{bytes_decides}
 use Rattle.std.specs.Fmt.{decimal}
 use Rattle.std.specs.List.{AllByRecursion, filter, flat_map, fold, list_all}
@@ -22,11 +22,8 @@ use Rattle.std.specs.Int.{from_be_bytes, to_be_bytes, w128}
 use Rattle.uuid.specs.Text.{lower}
 use Rattle.uuid.proofs.RoundTrips.{parses_hyphenated}
 use Rattle.uuid.proofs.OrderLemmas.{from_be_bytes-to_be_bytes_16}
-use Rattle.csv.specs.Machine.{next_record}
-use Rattle.csv.specs.Reading.{default_config, records_from, strip_bom}
-use Rattle.csv.specs.Writing.{default_writer, fields_text, is_blank, read_back, row_body, row_text}
-use Rattle.csv.specs.declared.parser.State.TheVariants as st
-use Rattle.csv.proofs.RoundTrip.{read-write, rows_text}
+use Rattle.csv.specs.Reading.{strip_bom}
+use Rattle.csv.specs.Writing.{default_writer, fields_text, is_blank, read_back, row_text}
 use Rattle.ac_base.specs.Texts.{are_digits, count_value, greatest, id_text, id_value, is_digit, number, text_cmp, with_digit}
 use Rattle.ac_cloud.specs.World.{Provider, UsedInventory, id_at, provider_at}
 use Rattle.ac_tables.specs.Tables.{amounts_of}
@@ -36,6 +33,7 @@ use Rattle.ac_tables.specs.Tables.Rows.{records_of}
 use Rattle.ac_tables.specs.Tables.UsageTable.{UsageRecord, usage_columns, usage_said}
 use Rattle.ac_tables.specs.UsageRows.{Entry, entries_fit, fits_table, is_used, rows_of_provider, usage_row, usages_fit, usages_text}
 use Rattle.ac_tables.proofs.Sorted.OrderFacts.{order_holds}
+use Rattle.ac_tables.proofs.WrittenRows.{written_read}
 use Rattle.ac_tables.specs.Laws.{UsagesReadBack}
 
 -- ---- a number that is written is read as that number
@@ -146,33 +144,7 @@ told_is_used q (e ∷ es) sorted = elim (cases_Bool (bytes_eq q e.0)) [
       ]
 ]
 
--- ---- rows that are written are read as these rows
-
-read_all : (rows : List Row) (n : ℕ) → length rows ≤ n → records_from default_config n st.StartRecord (rows_text rows) ≡ map read_back rows
-unfolding records_from rows_text next_record
-read_all [] zero h = refl
-read_all [] (suc n) h = refl
-read_all (row ∷ rows) zero h = absurd (omega (arith, h))
-read_all (row ∷ rows) (suc n) h = rw (read-write row (rows_text rows)) (ap (λ (t : List Row). read_back row ∷ t) (read_all rows n (omega (arith, h))))
-
-text_of_rows : (rows : List Row) → flat_map (row_text default_writer) rows ≡ rows_text rows
-unfolding rows_text
-text_of_rows [] = refl
-text_of_rows (row ∷ rows) = ap (λ (t : List ℕ). row_text default_writer row ++ t) (text_of_rows rows)
-
--- each row has a byte that ends it
-row_some : (row : Row) → 0 < length (row_text default_writer row)
-row_some row =
-    let blank : List ℕ = if is_blank default_writer row then 34 ∷ 34 ∷ [] else [] in
-    omega (arith, length-append (row_body default_writer row) (blank ++ 10 ∷ []), length-append blank (10 ∷ []))
-
-few_rows : (rows : List Row) → length rows ≤ length (rows_text rows)
-unfolding rows_text
-few_rows [] = omega arith
-few_rows (row ∷ rows) = omega (arith, few_rows rows, row_some row, length-append (row_text default_writer row) (rows_text rows))
-
-rows_read : (rows : List Row) → records_from default_config (length (flat_map (row_text default_writer) rows) + 1) st.StartRecord (flat_map (row_text default_writer) rows) ≡ map read_back rows
-rows_read rows = rw (text_of_rows rows) (read_all rows (length (rows_text rows) + 1) (omega (arith, few_rows rows)))
+-- ---- the rows of the table are read as these rows
 
 no_mark : (rows : List Row) → strip_bom (flat_map (row_text default_writer) (usage_columns ∷ rows)) ≡ flat_map (row_text default_writer) (usage_columns ∷ rows)
 unfolding strip_bom columns_needed name_of is_blank fields_text
@@ -188,7 +160,7 @@ kept_whole (p ∷ all) =
 pub records_are : (all : List Provider) → records_of (usages_text all) ≡ usage_columns ∷ flat_map rows_of_provider all
 unfolding usages_text columns_needed
 records_are all =
-    rw (no_mark (flat_map rows_of_provider all)) (rows_read (usage_columns ∷ flat_map rows_of_provider all))
+    written_read (usage_columns ∷ flat_map rows_of_provider all) (no_mark (flat_map rows_of_provider all))
     ∙ ap (λ (l : List Row). usage_columns ∷ l) (kept_whole all)
 
 -- ---- what these rows say

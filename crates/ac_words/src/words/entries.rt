@@ -4,7 +4,7 @@ ghost use Rattle.ac_run.specs.Tasks.{candidates, command_shown, list, tokens};
 ghost use Rattle.clap.specs.Words.{first_of, found_of, rows_of, subcommand_rows_of};
 ghost use Rattle.ac_words.specs.Words.{IsMadeOf, Says, Tells, after_of, asking, asking_beside, at_of, call_of, call_shown, command_found, form_kinds, form_named, form_of, is_complete, is_set, option_kinds, own_faults, reading_of, traits_of, tries_kinds, tries_named, tries_of, version_kinds, version_named, version_of, within_in, aggregate_kinds, aggregate_named, aggregate_of, aggregates_kinds};
 
-use super::tables::needed_paths;
+use super::tables::{aggregate_names, needed_paths};
 use super::{Call, WordFault, Words, fault_of, grammar};
 use crate::form::Form;
 use crate::name::Name;
@@ -341,6 +341,8 @@ fn words_with<'a>(
     let form = form(alloc, name, entries)?;
     let paths = needed_paths(alloc, name, entries)?;
     let changes = entry(entries, "change");
+    let names = is_set(entries, "names");
+    let aggregate_names = aggregate_names(alloc, entries)?;
     let detail = is_set(entries, "detail");
     Ok(Words {
         call,
@@ -348,6 +350,8 @@ fn words_with<'a>(
         tries,
         form,
         changes,
+        names,
+        aggregate_names,
         detail,
         paths,
     })

@@ -70,7 +70,7 @@ fn add_tables<'a>(alloc: Global, command: Command<'a>) -> Result<Command<'a>, Al
         "tables",
         "DIR",
         "The five tables of an export, in one folder: providers.csv, inventories.csv, usages.csv, \
-         traits.csv, aggregates.csv",
+         traits.csv, aggregates.csv; and aggregate-names.csv, for --names",
     ))?;
     let command = command.arg(table(
         alloc,
@@ -213,12 +213,18 @@ fn with_query<'a>(
         .about(about)
         .override_usage(usage)
         .after_help(below);
-    command.arg(word(
+    let command = command.arg(word(
         alloc,
         "query",
         "QUERY",
         "What is asked for, between '..' since the shell reads & ! and ? otherwise; of a URL, what \
          stands behind its ?",
+    ))?;
+    command.arg(flag(
+        alloc,
+        "names",
+        "Reads names in `in_tree`, `member_of` and tokens too: of providers, and of aggregates by aggregate-names.csv of the folder; \
+         `tokens` and `fill` write names as well",
     ))
 }
 

@@ -2,7 +2,7 @@
 ghost use Rattle.std.specs.Prelude.{◌≡◌, ◌∷◌, IfErr, IfOk, OnOk, Some, [], option_map, string_bytes};
 ghost use Rattle.std.specs.List.{list_any};
 ghost use Rattle.clap.specs.Words.{found_of, rows_of};
-ghost use Rattle.ac_words.specs.Words.{Tells, all_tables, has_option, has_tables, needed_kinds, needed_paths, no_paths, option_of, path_in, paths_in, paths_kept, paths_of, paths_said, table_kinds};
+ghost use Rattle.ac_words.specs.Words.{Tells, aggregate_names_of, all_tables, has_option, has_tables, needed_kinds, needed_paths, no_paths, option_of, path_in, paths_in, paths_kept, paths_of, paths_said, table_kinds};
 ghost use Rattle.clap.specs.declared.error.kind.ErrorKind.TheVariants.{ArgumentConflict, MissingRequiredArgument};
 
 use super::WordFault;
@@ -104,6 +104,20 @@ fn path_in(alloc: Global, folder: &str, table: Table) -> Result<String, AllocErr
 {
     let name = table.name();
     Ok(format!(in alloc; "{folder}/{name}.csv")?)
+}
+
+/// The path of the table of names of aggregates, where a folder is given.
+pub(super) fn aggregate_names(
+    alloc: Global,
+    entries: &ArgMatches<'_>,
+) -> Result<Option<String>, AllocError>
+    ensures { IfOk result (λ path. option_map string_bytes path
+        ≡ aggregate_names_of (rows_of (found_of entries.now))) }
+{
+    match entry(entries, "tables") {
+        Some(folder) => Ok(Some(format!(in alloc; "{folder}/aggregate-names.csv")?)),
+        None => Ok(None),
+    }
 }
 
 // The paths of all five.

@@ -1,4 +1,4 @@
-use Rattle.std.proofs.Common.{[], None, codes, false, arith, refl}
+use Rattle.std.proofs.Common.{[], None, Some, codes, false, arith, refl}
 use Rattle.clap.proofs.OnLiterals.{clap_on_literals}
 use Rattle.ac_query.specs.declared.version.Version.TheVariants.{V136}
 use Rattle.ac_run.specs.Tasks.{check}
@@ -15,11 +15,12 @@ returns c = λ files b has.
       over = record {
         some = omega arith;
         fine = refl;
-        line = record { call = job check []; version = V136; tries = None; form = Csv; changes = None; detail = false; paths = paths_in (codes "cloud") };
-        says = record { call = refl; version = refl; tries = refl; form = refl; changes = refl; detail = refl; paths = refl };
+        line = record { call = job check []; version = V136; tries = None; form = Csv; changes = None; names = false; aggregate_names = Some (codes "cloud/aggregate-names.csv"); detail = false; paths = paths_in (codes "cloud") };
+        says = record { call = refl; version = refl; tries = refl; form = refl; changes = refl; names = refl; aggregate_names = refl; detail = refl; paths = refl };
         file = [];
         changes = None;
-        there = record { tables = has; own = refl; few = refl; changed = tt; few_changes = refl };
+        names = None;
+        there = record { tables = has; own = refl; few = refl; changed = tt; few_changes = refl; named = refl; few_names = refl };
       };
       formed = refl;
       asks = refl;

@@ -6,10 +6,10 @@ use Rattle.ac_cli.proofs.program.answer_opened.Goals as goal
 
 pub returns-in-Some : goal.returns-in-Some
 returns-in-Some g c =
-    ran_call _ _ _ _ c.args.words.now c.args.file.now (changes_shown c.args.changes) c.args.inputs.now c.ran_job.new.inputs c.args.questions _ _ _ c.form.ensures (task_of c.in-Some.job)
-    (c.in-Some.ensures ∙ ap (task_in c.args.words.now c.args.file.now (changes_shown c.args.changes)) c.detail_of-detail.ensures) c.ran_job.ensures
+    ran_call _ _ _ _ c.args.words.now c.args.file.now (changes_shown c.args.changes) (changes_shown c.args.names) c.args.inputs.now c.ran_job.new.inputs c.args.questions _ _ _ c.form.ensures (task_of c.in-Some.job)
+    (c.in-Some.ensures ∙ ap (task_in c.args.words.now c.args.file.now (changes_shown c.args.changes) (changes_shown c.args.names)) c.detail_of-detail.ensures) c.ran_job.ensures
 
 pub returns-in-None : goal.returns-in-None
 returns-in-None g c =
-    held_call _ _ _ _ c.args.words.now c.args.file.now (changes_shown c.args.changes) c.args.inputs.now c.held.new.inputs c.args.questions _ _ _ _ _
-    (c.in-None.ensures ∙ ap (task_in c.args.words.now c.args.file.now (changes_shown c.args.changes)) c.detail_of-detail.ensures) c.detail_of-detail.ensures c.version.ensures c.tries.ensures c.held.ensures
+    held_call _ _ _ _ c.args.words.now c.args.file.now (changes_shown c.args.changes) (changes_shown c.args.names) c.args.inputs.now c.held.new.inputs c.args.questions _ _ _ _ _
+    (c.in-None.ensures ∙ ap (task_in c.args.words.now c.args.file.now (changes_shown c.args.changes) (changes_shown c.args.names)) c.detail_of-detail.ensures) c.detail_of-detail.ensures c.version.ensures c.tries.ensures c.held.ensures

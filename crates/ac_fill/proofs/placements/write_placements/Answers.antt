@@ -1,4 +1,4 @@
-use Rattle.std.proofs.Common.{◌≡◌, ◌∙◌, ◌∷◌, ℕ, Option, Some, true, false, Err, length, sym, ap, subst, refl, arith}
+use Rattle.std.proofs.Common.{is_some, ◌≡◌, ◌∙◌, ◌∷◌, ℕ, Option, Some, true, false, Err, length, sym, ap, subst, refl, arith}
 use Rattle.std.specs.Result.{result_from_control_flow}
 use Rattle.ac_cloud.specs.Cloud.CloudWorld.{providers_of}
 use Rattle.ac_query.specs.Asked.{Asked, slots_of}
@@ -30,7 +30,7 @@ lists-init g c =
       ahead = λ _. subst (λ (s : Stand). AreAhead s.world asked left) (sym stand) (ahead_whole all asked left c.requires.whole);
       small = omega (arith, ap (λ (s : Stand). s.count) stand);
       stops = λ may. may;
-      goes = λ r end ends. subst (λ (s : Stand). Ends g.W.Sink.taken g.W.Sink.failures all asked s c.args.out.now end r) stand ends;
+      goes = λ r end ends. subst (λ (s : Stand). Ends g.W.Sink.taken g.W.Sink.failures (is_some c.args.names) all asked s c.args.out.now end r) stand ends;
     }
 
 pub returns-in-None : goal.returns-in-None
@@ -54,6 +54,7 @@ place-requires g c =
     let chosen = all_head (IsChosen all asked) (g.S.Source.left c.lists.source) c.in-Some.list.now (rw c.in-Some.is at c.in_ok-next.ensures.head) c.lists.invariant.chosen in
     let back : asked ≡ asked_in (takings_of c.lists.filling) = sym c.lists.invariant.query in
     record {
+      names = c.requires.names;
       query = back;
       list = subst (λ (a : Asked). IsListBelow (length all) (length (slots_of a)) c.in-Some.list.now) back chosen.list;
       candidate = subst (λ (a : Asked). is_candidate all a c.in-Some.list.now ≡ true) back chosen.candidate;

@@ -1,4 +1,4 @@
-use Rattle.std.proofs.Common.{◌≡◌, ◌≤◌, Some, Result, length}
+use Rattle.std.proofs.Common.{is_some, ◌≡◌, ◌≤◌, Some, Result, length}
 use Rattle.std.specs.List.{All}
 use Rattle.ac_cloud.specs.Cloud.CloudWorld.{providers_of}
 use Rattle.ac_query.specs.Shown.Queries.{asked_of}
@@ -22,8 +22,8 @@ invariant-lists g l =
       ahead : (l.filling.wanted ≡ Some 0 → ⊥) → AreAhead (world_at all l.filling) asked left;
       small : count_at l.filling ≤ 4294967295;
       stops : g.S.Source.may_stop l.source → g.S.Source.may_stop l.fn.source;
-      goes : (r : Result Filled PageFault) (end : g.row.W.Denot) → Ends g.W.Sink.taken g.W.Sink.failures all asked (stand_of all l.filling) l.out end r
-          → Ends g.W.Sink.taken g.W.Sink.failures all asked (start_of asked.limit all) l.fn.out end r;
+      goes : (r : Result Filled PageFault) (end : g.row.W.Denot) → Ends g.W.Sink.taken g.W.Sink.failures (is_some l.names) all asked (stand_of all l.filling) l.out end r
+          → Ends g.W.Sink.taken g.W.Sink.failures (is_some l.names) all asked (start_of asked.limit all) l.fn.out end r;
     }
 
 abbrev pub decreases-lists : goal.decreases-lists

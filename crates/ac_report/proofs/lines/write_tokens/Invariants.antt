@@ -1,4 +1,4 @@
-use Rattle.std.proofs.Common.{◌≤◌, ℕ, List, Result, length}
+use Rattle.std.proofs.Common.{is_some, ◌≤◌, ℕ, List, Result, length}
 use Rattle.std.specs.List.{All}
 use Rattle.ac_query.specs.Shown.Queries.{asked_of}
 use Rattle.ac_rules.specs.Pages.{cut}
@@ -6,7 +6,7 @@ use Rattle.ac_cloud.specs.Cloud.CloudWorld.{providers_of}
 use Rattle.ac_report.specs.declared.fault.PageFault.{PageFault}
 use Rattle.ac_report.specs.Outcomes.{Reads, WritesEach}
 use Rattle.ac_report.specs.Pages.{IsAssignment}
-use Rattle.ac_report.specs.Texts.{line}
+use Rattle.ac_report.specs.Called.{line_by}
 use Rattle.ac_report.proofs.lines.write_tokens.Given as goal
 
 -- what ends it well from here does all
@@ -22,8 +22,8 @@ invariant-lists g l =
       small : l.count ≤ 4294967295;
       reads : (r : Result ℕ PageFault) (new : List (List ℕ)) → Reads l.wanted l.count r (left l.source) new → Reads limit 0 r (left l.fn.source) new;
       writes : (r : Result ℕ PageFault) (new : g.row.W.Denot)
-          → WritesEach taken failures (may_stop l.source) l.out new r (line (providers_of l.cloud)) (cut l.wanted (left l.source))
-          → WritesEach taken failures (may_stop l.fn.source) l.fn.out new r (line (providers_of l.cloud)) (cut limit (left l.fn.source));
+          → WritesEach taken failures (may_stop l.source) l.out new r (line_by (is_some l.names) (providers_of l.cloud)) (cut l.wanted (left l.source))
+          → WritesEach taken failures (may_stop l.fn.source) l.fn.out new r (line_by (is_some l.names) (providers_of l.cloud)) (cut limit (left l.fn.source));
     }
 
 abbrev pub decreases-lists : goal.decreases-lists

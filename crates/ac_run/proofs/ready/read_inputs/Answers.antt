@@ -1,7 +1,7 @@
 use Rattle.ac_run.specs.Tasks.{changes_shown, detail_shown}
 use Rattle.ac_cloud.specs.Cloud.CloudWorld.{world_of}
 use Rattle.ac_run.specs.Feeds.Draining.{texts_shown}
-use Rattle.ac_run.proofs.Attempted.{change_told, read_told, refused_status}
+use Rattle.ac_run.proofs.Attempted.{change_told, fault_told, read_told, refused_status}
 use Rattle.ac_run.proofs.ready.read_inputs.Goals as goal
 
 pub returns-in-Err-clause-fault : goal.returns-in-Err-clause-fault
@@ -11,6 +11,12 @@ returns-in-Err-clause-fault g c = λ say.
 
 pub returns-in-Err-clause-status : goal.returns-in-Err-clause-status
 returns-in-Err-clause-status g c = refused_status c.in-Err.refusal c.reading_detail-text.result c.new.result c.new.ensures
+
+pub returns-in-Err-read_cloud-clause-fault : goal.returns-in-Err-read_cloud-clause-fault
+returns-in-Err-read_cloud-clause-fault g c = λ say.
+    fault_told g.R.Feed.remaining g.R.Feed.failures (detail_shown c.args.detail) (changes_shown c.args.changes) c.args.inputs.now c.read_tables.new.inputs say
+    (texts_shown c.in-Ok.texts) c.in-Ok.ensures.bytes c.in-Ok.ensures.few c.in-Err-read_cloud.refusal c.fault_detail-text.result c.new-in-Err-read_cloud.result
+    c.in-Err-read_cloud.ensures.fault c.fault_detail-text.ensures.text c.new-in-Err-read_cloud.ensures
 
 pub returns-in-Err-read_cloud-clause-status : goal.returns-in-Err-read_cloud-clause-status
 returns-in-Err-read_cloud-clause-status g c = refused_status c.in-Err-read_cloud.refusal c.fault_detail-text.result c.new-in-Err-read_cloud.result c.new-in-Err-read_cloud.ensures

@@ -4,7 +4,7 @@ use Rattle.ac_run.specs.Answer.{answer}
 use Rattle.ac_run.specs.Refusals.{line_told, status_told}
 use Rattle.ac_run.specs.Stops.{TaskMayStop}
 use Rattle.ac_run.specs.Tasks.{task_of}
-use Rattle.ac_run.proofs.Told.{ends_answered, ends_high, ends_memory, ends_output, ends_part, ends_stopped, ends_tables, ends_tries, ends_with}
+use Rattle.ac_run.proofs.Told.{ends_answered, ends_high, ends_memory, ends_output, ends_part, ends_query, ends_stopped, ends_tables, ends_tries, ends_with}
 use Rattle.ac_run.proofs.run_job.run.Goals as goal
 
 pub returns-in-Err-clause-answered : goal.returns-in-Err-clause-answered
@@ -85,3 +85,10 @@ returns-in-Err-clause-written g c = λ few.
     let high = ends_high g.R.Feed.remaining g.R.Feed.failures task.detail (answer task) (TaskMayStop task) c.args.inputs.now c.answer_job.new.inputs (line_told c.in-Err.refused) (status_told c.in-Err.refused)
     (c.answer_job.new.out ≡ c.args.out.now) _ _ (λ e. ap g.W.Sink.taken e) _ _ c.in-Err.ensures.fault _ _ _ _ c.tell.ensures.line in
     absurd (omega (arith, few, high, c.tell.ensures.status))
+
+pub returns-in-Err-clause-query : goal.returns-in-Err-clause-query
+returns-in-Err-clause-query g c =
+    let task = task_of c.args.job.now in
+    rw c.tell.ensures.status
+    (ends_query g.R.Feed.remaining g.R.Feed.failures task.detail (answer task) (TaskMayStop task) c.args.inputs.now c.answer_job.new.inputs (line_told c.in-Err.refused) (status_told c.in-Err.refused)
+    (c.answer_job.new.out ≡ c.args.out.now) _ _ (λ e. ap g.W.Sink.taken e) _ _ c.in-Err.ensures.fault _ _ _ _ c.tell.ensures.line)

@@ -100,7 +100,7 @@ fn takings<'a>(
     let Ok(mut walk) = Walk::new(alloc, cloud, query, None) else {
         return Err(AllocError);
     };
-    match write_filled(alloc, cloud, query, &mut walk, out) {
+    match write_filled(alloc, cloud, None, query, &mut walk, out) {
         Ok(filled) => Ok(filled.takings),
         Err(_) => Err(AllocError),
     }

@@ -1,9 +1,9 @@
-use Rattle.std.proofs.Common.{◌≡◌, ◌∙◌, ◌<◌, ◌+◌, ◌∷◌, ℕ, List, Err, true, false, refl, ap, sym, ap₂, subst, arith, inl, inr}
+use Rattle.std.proofs.Common.{is_some, ◌≡◌, ◌∙◌, ◌<◌, ◌+◌, ◌∷◌, ℕ, List, Err, true, false, refl, ap, sym, ap₂, subst, arith, inl, inr}
 use Rattle.ac_cloud.specs.Cloud.CloudWorld.{providers_of}
 use Rattle.ac_cloud.specs.World.{Provider}
 use Rattle.ac_query.specs.Asked.{Asked}
 use Rattle.ac_report.specs.Outcomes.{one_less}
-use Rattle.ac_report.specs.Texts.{line}
+use Rattle.ac_report.specs.Called.{line_by}
 use Rattle.ac_report.specs.declared.fault.PageFault.TheVariants as fault
 use Rattle.ac_rules.specs.Claims.{claimed}
 use Rattle.ac_rules.specs.Placed.{assigned}
@@ -17,8 +17,8 @@ use Rattle.ac_fill.proofs.Placing.{ahead_after, ahead_first, ahead_past, filled_
 use Rattle.ac_fill.proofs.Units.{claim_takes}
 use Rattle.ac_fill.proofs.placements.Filling.place.Goals as goal
 
-pub returns-in_err-put_line-clause-places : goal.returns-in_err-put_line-clause-places
-returns-in_err-put_line-clause-places g c = λ rest e.
+pub returns-in_err-put_line_by-clause-places : goal.returns-in_err-put_line_by-clause-places
+returns-in_err-put_line_by-clause-places g c = λ rest e.
     let all = providers_of c.args.assignment.now.cloud.now in
     let asked = asked_in (takings_of c.args.self.now) in
     places_err all asked (stand_of all c.room.self) rest c.from_residual.ensures.1
@@ -37,7 +37,7 @@ returns-in_err-push_piece-clause-places g c = λ rest e.
     (c.room.invariant.goes rest e (Err _) _
     (ends_stopped all asked (stand_of all c.room.self) next list
     (filled_first asked c.requires.asks c.room.self.wanted now list _ (c.wants.ensures.wanted c.room-test.true) (ahead_first now asked list rest is (c.room.invariant.ahead rest e)))
-    (c.in_err-push_piece.ensures (line all) list (sym (c.deref.ensures.value ∙ c.in_ok-put_line.ensures)))))
+    (c.in_err-push_piece.ensures (line_by (is_some c.args.names) all) list (sym (c.deref.ensures.value ∙ c.in_ok-put_line_by.ensures)))))
 
 pub returns-in_err-push_piece-clause-untried : goal.returns-in_err-push_piece-clause-untried
 returns-in_err-push_piece-clause-untried g c = λ e.
@@ -82,7 +82,7 @@ room-preserved g c =
           ∙ ap₂ (λ w l. list ∷ filled l w asked) (sym step.world) (sym c.one_less-self.ensures) in
           c.room.invariant.goes rest e r end
           (ends_on all asked (stand_of all c.room.self) next list first c.saturating_add-self.ensures step.world
-          (c.in_ok-push_piece.ensures (line all) list (sym (c.deref.ensures.value ∙ c.in_ok-put_line.ensures))) r end ends);
+          (c.in_ok-push_piece.ensures (line_by (is_some c.args.names) all) list (sym (c.deref.ensures.value ∙ c.in_ok-put_line_by.ensures))) r end ends);
     }
 
 pub returns-in_err-keep_front-clause-places : goal.returns-in_err-keep_front-clause-places

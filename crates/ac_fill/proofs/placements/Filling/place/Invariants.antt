@@ -1,4 +1,4 @@
-use Rattle.std.proofs.Common.{◌≡◌, ◌≤◌, ◌∷◌, ℕ, List, Result}
+use Rattle.std.proofs.Common.{is_some, ◌≡◌, ◌≤◌, ◌∷◌, ℕ, List, Result}
 use Rattle.ac_cloud.specs.Cloud.CloudWorld.{providers_of}
 use Rattle.ac_report.specs.declared.fault.PageFault.{PageFault}
 use Rattle.ac_fill.specs.Ends.{AreAhead, Ends, count_at, stand_of, takings_of, world_at}
@@ -18,8 +18,8 @@ invariant-room g l =
       small : count_at l.self ≤ 4294967295;
       ahead : (rest : List (List ℕ)) → AreAhead (world_at all l.fn.self) asked (l.assignment.list.now ∷ rest) → AreAhead (world_at all l.self) asked (l.assignment.list.now ∷ rest);
       goes : (rest : List (List ℕ)) → AreAhead (world_at all l.fn.self) asked (l.assignment.list.now ∷ rest) → (r : Result Filled PageFault) (end : g.row.W.Denot)
-          → Ends g.W.Sink.taken g.W.Sink.failures all asked (stand_of all l.self) l.out end r
-          → Ends g.W.Sink.taken g.W.Sink.failures all asked (stand_of all l.fn.self) l.fn.out end r;
+          → Ends g.W.Sink.taken g.W.Sink.failures (is_some l.names) all asked (stand_of all l.self) l.out end r
+          → Ends g.W.Sink.taken g.W.Sink.failures (is_some l.names) all asked (stand_of all l.fn.self) l.fn.out end r;
     }
 
 abbrev pub decreases-room : goal.decreases-room

@@ -1,8 +1,8 @@
-use Rattle.std.proofs.Common.{◌∙◌, ℕ, None, Option, false, refl, ap}
+use Rattle.std.proofs.Common.{◌∙◌, ℕ, None, Option, false, is_some, refl, ap}
 use Rattle.ac_cloud.specs.Cloud.CloudWorld.{providers_of}
 use Rattle.ac_fill.specs.Filled.{filled}
 use Rattle.ac_query.specs.Shown.Queries.{asked_of}
-use Rattle.ac_run.specs.Answer.{fills}
+use Rattle.ac_run.specs.Answer.{fills_by}
 use Rattle.ac_run.specs.Outputs.{fill_status}
 use Rattle.ac_run.proofs.Delivering.{breaks_off}
 use Rattle.ac_run.proofs.capacity.placements.write_placements.Goals as goal
@@ -22,5 +22,5 @@ returns g c =
 
 pub returns-in_err-filled : goal.returns-in_err-filled
 returns-in_err-filled g c =
-    breaks_off (fills (providers_of c.args.cloud.now) false (asked_of c.args.query.now) None) c.from_residual-in_err-filled.result refl c.in_ok-source.ensures.stops c.in_err-filled.ensures.writes
+    breaks_off (fills_by (is_some c.args.names) (providers_of c.args.cloud.now) false (asked_of c.args.query.now) None) c.from_residual-in_err-filled.result refl c.in_ok-source.ensures.stops c.in_err-filled.ensures.writes
     c.from_residual-in_err-filled.ensures.1

@@ -1,0 +1,149 @@
+//! The texts of a job with UUIDs in place of names.
+ghost use Rattle.std.specs.Prelude.{◌≡◌, IfErr, IfOk, None, OnOk, Ok, map, option_map, string_bytes};
+ghost use Rattle.ac_cloud.specs.Cloud.CloudWorld.{providers_of};
+ghost use Rattle.ac_report.specs.Called as called_by;
+ghost use Rattle.ac_report.specs.Called.{AreCalled, providers_called};
+ghost use Rattle.ac_run.specs.Naming.{ExplainsNames, TellsNames, names_refused, query_asked, task_by, task_with_ids, token_asked};
+ghost use Rattle.ac_run.specs.Tasks.{task_of};
+ghost use Rattle.ac_run.specs.Wanted.Named as named;
+ghost use Rattle.ac_run.specs.Wanted.Named.{AreNamed};
+ghost use Rattle.ac_tables.specs.Called.{called_said, called_shown};
+ghost use Rattle.ac_tables.specs.Tables.Rows.{records_of};
+
+use super::query::{PairFault, query_with_ids};
+use super::token::token_with_ids;
+use super::{LookupFault, Naming};
+use crate::job::Job;
+use crate::refusal::NamesRefusal;
+use ac_base::NoMemory;
+use ac_report::Names;
+use ac_tables::{BesideFault, Called, Cloud, read_called};
+use std::alloc::Global;
+
+/// The most bytes of a table of names: 64 MiB, as of every table.
+const MOST_BYTES: usize = 67_108_864;
+
+/// The names of aggregates that a table says.
+#[tactic(auto, unfolding(crate::specs::Naming::names_refused))]
+pub(crate) fn read_names(alloc: Global, text: &[u8]) -> Result<Vec<Called>, NamesRefusal>
+    ensures called { IfOk result (λ called.
+        map called_shown called.items ≡ called_said (records_of text.now)) }
+    ensures fine { OnOk result (names_refused text.now ≡ None) }
+    ensures fault { IfErr result (ExplainsNames (names_refused text.now)) }
+{
+    if text.len() > MOST_BYTES {
+        return Err(NamesRefusal::TooLarge);
+    }
+    match read_called(alloc, text) {
+        Ok(called) => Ok(called),
+        Err(BesideFault::At { row, kind }) => Err(NamesRefusal::Record { row, kind }),
+        Err(BesideFault::NoMemory) => Err(NamesRefusal::NoMemory),
+    }
+}
+
+// The names of some aggregates.
+fn aggregate_names<'a>(alloc: Global, called: &'a [Called]) -> Result<Names<'a>, NoMemory>
+    ensures { IfOk result (AreCalled (map called_shown called.now)) }
+{
+    let mut names = Names::new(alloc);
+    for one in called {
+        names.add(one.id, &one.name)?;
+    }
+    Ok(names)
+}
+
+impl<'a> Naming<'a> {
+    /// The names of the providers of a cloud, and of these aggregates.
+    pub(crate) fn new(
+        alloc: Global,
+        cloud: &'a Cloud,
+        called: &'a [Called],
+    ) -> Result<Naming<'a>, NoMemory>
+        ensures providers { IfOk result (λ naming.
+            AreCalled (providers_called (providers_of cloud.now)) naming.providers) }
+        ensures aggregates { IfOk result (λ naming.
+            AreCalled (map called_shown called.now) naming.aggregates) }
+    {
+        Ok(Naming {
+            providers: Names::of_providers(alloc, cloud)?,
+            aggregates: aggregate_names(alloc, called)?,
+        })
+    }
+}
+
+/// The query of a job, and its token, where it has one.
+#[derive(Drop)]
+pub(crate) struct Texts {
+    query: String,
+    token: Option<String>,
+}
+
+// A query with UUIDs in place of names.
+fn read_query(alloc: Global, naming: &Naming<'_>, query: &str) -> Result<String, NamesRefusal>
+    ensures text { IfOk result (λ text. (called : named.Naming) → AreNamed called naming.now
+        → query_asked called query.now ≡ Ok (string_bytes text)) }
+    ensures fault { IfErr result (λ why. (called : named.Naming) → AreNamed called naming.now
+        → TellsNames (query_asked called query.now) why) }
+{
+    match query_with_ids(alloc, naming, query) {
+        Ok(query) => Ok(query),
+        Err(PairFault::Name(number, fault)) => Err(NamesRefusal::Pair(number, fault)),
+        Err(PairFault::NoMemory) => Err(NamesRefusal::NoMemory),
+    }
+}
+
+// A token with UUIDs in place of names, where there is one.
+fn read_token(
+    alloc: Global,
+    names: &Names<'_>,
+    token: Option<&str>,
+) -> Result<Option<String>, NamesRefusal>
+    ensures text { IfOk result (λ text. (called : called_by.Called) → AreCalled called names.now
+        → token_asked called (option_map (λ t. t.now) token.entry)
+        ≡ Ok (option_map string_bytes text)) }
+    ensures fault { IfErr result (λ why. (called : called_by.Called) → AreCalled called names.now
+        → TellsNames (token_asked called (option_map (λ t. t.now) token.entry)) why) }
+{
+    let Some(token) = token else {
+        return Ok(None);
+    };
+    match token_with_ids(alloc, names, token) {
+        Ok(token) => Ok(Some(token)),
+        Err(LookupFault::Name(fault)) => Err(NamesRefusal::Token(fault)),
+        Err(LookupFault::NoMemory) => Err(NamesRefusal::NoMemory),
+    }
+}
+
+impl Texts {
+    /// Those of a job.
+    pub(crate) fn read(
+        alloc: Global,
+        job: &Job<'_>,
+        naming: &Naming<'_>,
+    ) -> Result<Texts, NamesRefusal>
+        ensures task { IfOk result (λ texts. (called : named.Naming) → AreNamed called naming.now
+            → task_with_ids called (task_of job.now) ≡ Ok (task_by (task_of job.now) texts)) }
+        ensures fault { IfErr result (λ why. (called : named.Naming) → AreNamed called naming.now
+            → TellsNames (task_with_ids called (task_of job.now)) why) }
+    {
+        let query = match read_query(alloc, naming, job.query) {
+            Ok(query) => query,
+            Err(why) => return Err(why),
+        };
+        match read_token(alloc, &naming.providers, job.command.token()) {
+            Ok(token) => Ok(Texts { query, token }),
+            Err(why) => Err(why),
+        }
+    }
+
+    /// The job with them.
+    pub(crate) fn job<'b, 'a>(&'b self, job: &'b Job<'a>) -> Job<'b>
+        ensures { task_of result ≡ task_by (task_of job.now) self.now }
+    {
+        Job {
+            command: job.command.with_token(self.token.as_deref()),
+            query: self.query.as_str(),
+            ..*job
+        }
+    }
+}
