@@ -32,16 +32,16 @@ _ac_cli() {
     else
         case ${COMP_WORDS[1]} in
         check) offered='--tables --providers --inventories --usages --traits --aggregates --change --detail --help' ;;
-        candidates) offered='--tables --providers --inventories --usages --traits --aggregates --change --detail --microversion --tries --after --at --no-traits --help' ;;
-        tokens) offered='--tables --providers --inventories --usages --traits --aggregates --change --detail --microversion --tries --after --at --help' ;;
-        list) offered='--tables --providers --inventories --usages --traits --aggregates --change --detail --microversion --tries --after --at --no-traits --format --help' ;;
-        fill) offered='--tables --providers --inventories --usages --traits --aggregates --change --detail --microversion --tries --sum --help' ;;
-        verify) offered='--tables --providers --inventories --usages --traits --aggregates --change --detail --microversion --help' ;;
-        explain) offered='--tables --providers --inventories --usages --traits --aggregates --change --detail --microversion --tries --help' ;;
-        hosts) offered='--tables --providers --inventories --usages --traits --aggregates --change --detail --microversion --tries --in --sum --format --help' ;;
-        why) offered='--tables --providers --inventories --usages --traits --aggregates --change --detail --microversion --tries --format --help' ;;
+        candidates) offered='--names --tables --providers --inventories --usages --traits --aggregates --change --detail --microversion --tries --after --at --no-traits --help' ;;
+        tokens) offered='--names --tables --providers --inventories --usages --traits --aggregates --change --detail --microversion --tries --after --at --help' ;;
+        list) offered='--names --tables --providers --inventories --usages --traits --aggregates --change --detail --microversion --tries --after --at --no-traits --format --help' ;;
+        fill) offered='--names --tables --providers --inventories --usages --traits --aggregates --change --detail --microversion --tries --sum --help' ;;
+        verify) offered='--names --tables --providers --inventories --usages --traits --aggregates --change --detail --microversion --help' ;;
+        explain) offered='--names --tables --providers --inventories --usages --traits --aggregates --change --detail --microversion --tries --help' ;;
+        hosts) offered='--names --tables --providers --inventories --usages --traits --aggregates --change --detail --microversion --tries --in --sum --format --help' ;;
+        why) offered='--names --tables --providers --inventories --usages --traits --aggregates --change --detail --microversion --tries --format --help' ;;
         capacity) offered='--tables --providers --inventories --usages --traits --aggregates --change --detail --microversion --tries --prometheus --format --help' ;;
-        compare) offered='--tables --providers --inventories --usages --traits --aggregates --change --detail --microversion --tries --help' ;;
+        compare) offered='--names --tables --providers --inventories --usages --traits --aggregates --change --detail --microversion --tries --help' ;;
         audit) offered='--tables --providers --inventories --usages --traits --aggregates --change --detail --zone --format --help' ;;
         query) offered='--detail --microversion --help' ;;
         session) offered='--tables --providers --inventories --usages --traits --aggregates --change --detail --microversion --tries --help' ;;
