@@ -141,6 +141,11 @@ def heads(file, text):
             yield found[2] == 'pub ', place, found[1], (kind if found[1] else path) + found[3] + '$'
 
 
+def ending(pattern):
+    """The end of the name that a pattern is of: that of a function, or of a method that is no trait's."""
+    return re.sub(r'\\(.)', r'\1', pattern.replace(r'(\w+::)*', '').replace(r'\w*', '')).rstrip('$')
+
+
 def function_at(file, text, old):
     """The function whose body has this text, as a pattern of its name, or None."""
     if not file.startswith('src/') or old not in text:
@@ -185,7 +190,7 @@ class Crate:
     def asked(self, edits):
         """The names by which a check is asked about the functions of these edits."""
         known = self.known()
-        return sorted({name for edit in edits for name in edit.among(known) or (re.sub(r'\\(.)', r'\1', function).rstrip('$') for function in edit.functions)})
+        return sorted({name for edit in edits for name in edit.among(known) or map(ending, edit.functions)})
 
     @functools.cached_property
     def rlib_sum(self):
