@@ -6,6 +6,7 @@ use Rattle.std.specs.Io.KnownBytes.{Appends, Keeps, append_known}
 use Rattle.ac_base.specs.Gathered.{IsFirstPart}
 use Rattle.ac_query.specs.declared.version.Version.{Version}
 use Rattle.ac_session.specs.Lines.{most_passed}
+use Rattle.ac_session.specs.Turns.Named.{Terms, terms_with}
 use Rattle.ac_session.specs.Sessions.{session_answer}
 use Rattle.std.specs.Prelude.{Contains, nat_le}
 use Rattle.ac_base.specs.Devices.{Rises}
@@ -300,12 +301,12 @@ nothing_written (Some xs) (Some ys) output first none part =
     let all : xs ++ output ≡ [] = ap (λ l. l ++ output) (some_same first) ∙ none in
     front_none ys part.0 (sym all ∙ part.1) ∙ sym all
 
-module _ (questions : MemFile) (detail : Option Paths) (changes : Option (List ℕ)) (version : Version) (from to : FiveTables MemFile) (s : Streams) (given : ℕ)
+module _ (questions : MemFile) (detail : Option Paths) (changes : Option (List ℕ)) (terms : Terms) (from to : FiveTables MemFile) (s : Streams) (given : ℕ)
     (b : Bytes) (tell : TellBytes told from b) (first : s.out_old ≡ Some []) (out_before : s.out_before ≡ 0) (out_after : s.out_after ≡ 0)
     (err_before : s.err_before ≡ 0) (err_after : s.err_after ≡ 0) (few : given ≤ 6) (short : length (file_bytes questions) < most_passed)
-    (held : HeldSession told never told never detail changes version None from to questions s given) where
+    (held : HeldSession told never told never detail changes terms None from to questions s given) where
   abbrev said : Outcome
-  said = session_answer detail changes version b (file_bytes questions)
+  said = session_answer detail changes terms b (file_bytes questions)
 
   abbrev IsHeldSo : Type 0
   IsHeldSo = IsAnswered said s.out_old s.out_new s.err_old s.err_new given
@@ -318,7 +319,7 @@ module _ (questions : MemFile) (detail : Option Paths) (changes : Option (List �
   }
 
   not_read : (failed : Option Table) × FailsOr (Unread never detail from to s)
-      ((b : Bytes) → TellBytes told from b → (q : List ℕ) → IsRefused (session_answer detail changes version b q) s.err_old s.err_new s.err_before s.err_after given) failed → IsHeldSo
+      ((b : Bytes) → TellBytes told from b → (q : List ℕ) → IsRefused (session_answer detail changes terms b q) s.err_old s.err_new s.err_before s.err_after given) failed → IsHeldSo
   not_read (Some t, rose) = absurd (no_rise from to t rose.rises)
   not_read (None, this) = not_held (this b tell (file_bytes questions))
 
@@ -335,20 +336,20 @@ module _ (questions : MemFile) (detail : Option Paths) (changes : Option (List �
 
 module _ (questions : MemFile) (words : List Text) (files : Files) (s : Streams) (given : ℕ) (few : given ≤ 6) (b : Bytes) (over : SaysOver words files b)
     (Done : Type 0) (call : Option Task) (is : task_in over.line over.file over.changes over.names (detail_in over.line) ≡ call)
-    (done : (from to : FiveTables MemFile) → TellBytes told from b → RanCall told never told never call over.line over.changes from to questions s given → Done) where
+    (done : (from to : FiveTables MemFile) → TellBytes told from b → RanCall told never told never call over.line over.changes over.names from to questions s given → Done) where
   abbrev own : Line
   own = over.line
 
-  abbrev Ran_so : Option Task → Option (List ℕ) → FiveTables MemFile → FiveTables MemFile → Type 0
-  Ran_so task changes from to = RanCall told never told never task own changes from to questions s given
+  abbrev Ran_so : Option Task → Option (List ℕ) → Option (List ℕ) → FiveTables MemFile → FiveTables MemFile → Type 0
+  Ran_so task changes names from to = RanCall told never told never task own changes names from to questions s given
 
   called : (file : List ℕ) (changes names : Option (List ℕ)) (from to : FiveTables MemFile) → file ≡ over.file → changes ≡ over.changes → names ≡ over.names → TellBytes told from b
-      → Ran_so (task_in own file changes names (detail_in own)) changes from to → Done
+      → Ran_so (task_in own file changes names (detail_in own)) changes names from to → Done
   called file changes names from to f c n tell ran =
-      done from to tell (subst (λ (t : Option Task). Ran_so t over.changes from to) is
-      (subst (λ (x : Option (List ℕ)). Ran_so (task_in own over.file x over.names (detail_in own)) x from to) c
-      (subst (λ (x : Option (List ℕ)). Ran_so (task_in own over.file changes x (detail_in own)) changes from to) n
-      (subst (λ (x : List ℕ). Ran_so (task_in own x changes names (detail_in own)) changes from to) f ran))))
+      done from to tell (subst (λ (t : Option Task). Ran_so t over.changes over.names from to) is
+      (subst (λ (x : Option (List ℕ)). Ran_so (task_in own over.file x over.names (detail_in own)) x over.names from to) c
+      (subst (λ (x : Option (List ℕ)). Ran_so (task_in own over.file changes x (detail_in own)) changes x from to) n
+      (subst (λ (x : List ℕ). Ran_so (task_in own x changes names (detail_in own)) changes names from to) f ran))))
 
   over_headers : RanHeaders told never told never questions own s given → Done
   over_headers ran =
@@ -427,7 +428,7 @@ module _ (questions : MemFile) (words : List Text) (files : Files) (s : Streams)
       let few_bytes : length (file_bytes questions) < most_passed = rw is short in
       subst (λ (q : List ℕ). IsAnswered (held_by holds q) s.out_old s.out_new s.err_old s.err_new given) is
       (program_left questions words files s given few b holds.over _ None holds.asks
-      (λ from to tell ran. session_left questions (detail_in holds.over.line) holds.over.changes holds.over.line.version from to s given b tell first out_before out_after
+      (λ from to tell ran. session_left questions (detail_in holds.over.line) holds.over.changes (terms_with holds.over.line.version holds.over.names) from to s given b tell first out_before out_after
       err_before err_after few few_bytes
-      (subst (λ (n : Option ℕ). HeldSession told never told never (detail_in holds.over.line) holds.over.changes holds.over.line.version n from to questions s given) holds.whole ran))
+      (subst (λ (n : Option ℕ). HeldSession told never told never (detail_in holds.over.line) holds.over.changes (terms_with holds.over.line.version holds.over.names) n from to questions s given) holds.whole ran))
       same ends)

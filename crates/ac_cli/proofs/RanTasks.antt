@@ -11,6 +11,7 @@ use Rattle.ac_session.proofs.Stood.{first_none}
 use Rattle.ac_words.specs.declared.form.Form.{Form}
 use Rattle.ac_words.specs.declared.form.Form.TheVariants.{Csv}
 use Rattle.ac_words.specs.Words.{Line, task_in}
+use Rattle.ac_session.specs.Turns.Named.{terms_with}
 use Rattle.ac_cli.specs.Program.{HeldSession, IsLine, Ran, RanCall, RanJob, RanSession, RanTask, Stops, Streams, detail_in}
 
 -- where memory gave out at first, nothing was taken
@@ -50,19 +51,19 @@ module _ {R : Type 0} (remaining : R → Option (List ℕ)) (from : FiveTables R
 module _ {R Q : Type 0} (remaining : R → Option (List ℕ)) (failures : R → ℕ) (asked : Q → Option (List ℕ)) (fails : Q → ℕ) (line : Line)
     (file : List ℕ) (changes names : Option (List ℕ)) (from to : FiveTables R) (questions : Q) (s : Streams) (given : ℕ) where
   abbrev Called : Option Task → Type 0
-  Called task = RanCall remaining failures asked fails task line changes from to questions s given
+  Called task = RanCall remaining failures asked fails task line changes names from to questions s given
 
   pub ran_call : (form : Form) → form ≡ line.form → (task : Task) → Some task ≡ task_in line file changes names (detail_in line) → RanJob remaining failures form task from to s given
       → Called (task_in line file changes names (detail_in line))
   ran_call form same task is ran = subst Called is (subst (λ (f : Form). RanJob remaining failures f task from to s given) same ran)
 
   pub held_call : (detail : Option Paths) (version : Version) (tries : Option ℕ) → None ≡ task_in line file changes names (detail_in line) → detail ≡ detail_in line → version ≡ line.version → tries ≡ line.tries
-      → HeldSession remaining failures asked fails detail changes version tries from to questions s given → Called (task_in line file changes names (detail_in line))
+      → HeldSession remaining failures asked fails detail changes (terms_with version names) tries from to questions s given → Called (task_in line file changes names (detail_in line))
   held_call detail version tries is same read bound held =
       subst Called is
-      (subst (λ (d : Option Paths). HeldSession remaining failures asked fails d changes line.version line.tries from to questions s given) same
-      (subst (λ (v : Version). HeldSession remaining failures asked fails detail changes v line.tries from to questions s given) read
-      (subst (λ (n : Option ℕ). HeldSession remaining failures asked fails detail changes version n from to questions s given) bound held)))
+      (subst (λ (d : Option Paths). HeldSession remaining failures asked fails d changes (terms_with line.version names) line.tries from to questions s given) same
+      (subst (λ (v : Version). HeldSession remaining failures asked fails detail changes (terms_with v names) line.tries from to questions s given) read
+      (subst (λ (n : Option ℕ). HeldSession remaining failures asked fails detail changes (terms_with version names) n from to questions s given) bound held)))
 
 -- what is said of a run is said of its task by another name
 pub of_task : {R : Type 0} (remaining : R → Option (List ℕ)) (failures : R → ℕ) (from to : FiveTables R) (s : Streams) (given : ℕ) (task other : Task) → task ≡ other

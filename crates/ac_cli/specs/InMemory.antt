@@ -10,6 +10,7 @@ use Rattle.ac_run.specs.Notes.{noted}
 use Rattle.ac_query.specs.declared.version.Version.TheVariants.{V136}
 use Rattle.ac_run.specs.Tasks.{Paths, Task, check}
 use Rattle.ac_session.specs.Sessions.{session_answer}
+use Rattle.ac_session.specs.Turns.Named.{terms_with}
 use Rattle.ac_words.specs.Words.{Line, Says, faults, file_called, is_tabled, named, paths_in, task_in}
 use Rattle.ac_words.specs.declared.form.Form.{Form}
 use Rattle.ac_words.specs.declared.form.Form.TheVariants.{Csv}
@@ -111,7 +112,7 @@ left_by form task b = record (formed form (answer task b)) { line = (answer task
 
 -- the answers of a session to these lines
 abbrev pub held_by : {words : List Text} {files : Files} {b : Bytes} → HoldsOver words files b → List ℕ → Outcome
-held_by {words} {files} {b} holds questions = session_answer (detail_in holds.over.line) holds.over.changes holds.over.line.version b questions
+held_by {words} {files} {b} holds questions = session_answer (detail_in holds.over.line) holds.over.changes (terms_with holds.over.line.version holds.over.names) b questions
 
 -- it is left: its output, its text on the error stream, and its status
 pub record IsLeft (outcome : Outcome) (left : Left) : Type 0 where

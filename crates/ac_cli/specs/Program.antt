@@ -27,6 +27,7 @@ use Rattle.ac_session.specs.Held.{unnamed}
 use Rattle.ac_session.specs.Sessions.{AreUnread, session_answer, session_answer_with}
 use Rattle.ac_session.specs.Tries.{AreStops}
 use Rattle.ac_session.specs.Turns.{lines_in}
+use Rattle.ac_session.specs.Turns.Named.{Terms, terms_with}
 use Rattle.ac_tables.specs.declared.read.FiveTables.{FiveTables}
 use Rattle.ac_cli.specs.Forms.{formed}
 use Rattle.ac_cli.specs.Files.{AreOpened, ExplainsUnread, HoldsChanges, HoldsFile, HoldsNames, IsThere}
@@ -146,15 +147,15 @@ pub record RanSession {R Q : Type 0} (remaining : R → Option (List ℕ)) (trie
   pub failures : s.err_before ≤ s.err_after
 
 -- the searches of a session may stop so, over the bytes of five tables, as changes leave them
-abbrev pub SessionMayStop : Option ℕ → Option (List ℕ) → Version → Bytes → Stops → List ℕ → Type 0
-SessionMayStop tries changes version b stops q = AreStops tries version (unnamed (world_in changes b)) stops (lines_in q)
+abbrev pub SessionMayStop : Option ℕ → Option (List ℕ) → Terms → Bytes → Stops → List ℕ → Type 0
+SessionMayStop tries changes terms b stops q = AreStops tries terms (unnamed (world_in changes b)) stops (lines_in q)
 
--- a session was held over feeds of tables that were these before and after, with these changes and these questions
+-- a session was held over feeds of tables that were these before and after, with these changes, these terms and these questions
 abbrev pub HeldSession : {R Q : Type 0} → (R → Option (List ℕ)) → (R → ℕ) → (Q → Option (List ℕ)) → (Q → ℕ)
-    → Option Paths → Option (List ℕ) → Version → Option ℕ → FiveTables R → FiveTables R → Q → Streams → ℕ → Type 0
-HeldSession {R} {Q} remaining failures asked fails detail changes version tries from to questions s given =
+    → Option Paths → Option (List ℕ) → Terms → Option ℕ → FiveTables R → FiveTables R → Q → Streams → ℕ → Type 0
+HeldSession {R} {Q} remaining failures asked fails detail changes terms tries from to questions s given =
     (last : Q)
-    × RanSession remaining tries (session_answer detail changes version) (SessionMayStop tries changes version) (session_answer_with detail changes version)
+    × RanSession remaining tries (session_answer detail changes terms) (SessionMayStop tries changes terms) (session_answer_with detail changes terms)
     (Unread failures detail from to s) asked fails from questions last s given
 
 -- ---- words that were accepted
@@ -165,10 +166,10 @@ detail_in line = if line.detail then Some line.paths else None
 
 -- what a line calls for was done over feeds of tables that were these before and after: a task was run, or a session was held
 abbrev pub RanCall : {R Q : Type 0} → (R → Option (List ℕ)) → (R → ℕ) → (Q → Option (List ℕ)) → (Q → ℕ)
-    → Option Task → Line → Option (List ℕ) → FiveTables R → FiveTables R → Q → Streams → ℕ → Type 0
-RanCall remaining failures asked fails (Some task) line changes from to questions s given = RanJob remaining failures line.form task from to s given
-RanCall remaining failures asked fails None line changes from to questions s given =
-    HeldSession remaining failures asked fails (detail_in line) changes line.version line.tries from to questions s given
+    → Option Task → Line → Option (List ℕ) → Option (List ℕ) → FiveTables R → FiveTables R → Q → Streams → ℕ → Type 0
+RanCall remaining failures asked fails (Some task) line changes names from to questions s given = RanJob remaining failures line.form task from to s given
+RanCall remaining failures asked fails None line changes names from to questions s given =
+    HeldSession remaining failures asked fails (detail_in line) changes (terms_with line.version names) line.tries from to questions s given
 
 -- a refused path is told; where more is told, with the reason that was given for it, or else want of memory for that
 abbrev pub IsToldUnopened : Option Paths → Table → Text → Text → (List ℕ → Type 0) → ℕ → Type 0
@@ -262,7 +263,7 @@ pub record RanHeaders {R Q : Type 0} (remaining : R → Option (List ℕ)) (fail
   pub from : FiveTables R
   pub to : FiveTables R
   pub tells : TellBytes remaining from header_bytes
-  pub ran : RanCall remaining failures asked fails (task_in line [] None None (detail_in line)) line None from to questions s given
+  pub ran : RanCall remaining failures asked fails (task_in line [] None None (detail_in line)) line None None from to questions s given
 
 -- What a line calls for was done over what was opened at its paths.
 pub record RanOpened {R Q : Type 0} (opens : List ℕ → R → Type 0) (refuses : List ℕ → List ℕ → Type 0) (remaining : R → Option (List ℕ)) (failures : R → ℕ)
@@ -276,7 +277,7 @@ pub record RanOpened {R Q : Type 0} (opens : List ℕ → R → Type 0) (refuses
   pub changed : HoldsChanges opens remaining line.changes changes
   pub names : Option (List ℕ)
   pub named : HoldsNames opens refuses remaining line.names line.aggregate_names names
-  pub ran : RanCall remaining failures asked fails (task_in line file changes names (detail_in line)) line changes from to questions s status
+  pub ran : RanCall remaining failures asked fails (task_in line file changes names (detail_in line)) line changes names from to questions s status
 
 abbrev pub EndsForLine : {R Q : Type 0} → (List ℕ → R → Type 0) → (List ℕ → List ℕ → Type 0) → (R → Option (List ℕ)) → (R → ℕ) → (Q → Option (List ℕ)) → (Q → ℕ)
     → Q → Line → Streams → ℕ → Type 0

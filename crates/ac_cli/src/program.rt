@@ -9,6 +9,7 @@ ghost use Rattle.ac_run.specs.Notes.{noted};
 ghost use Rattle.ac_run.specs.Tasks.{changes_shown, command_shown, detail_shown, paths_shown, task_of};
 ghost use Rattle.ac_cli.specs.Program.{beside_called, EndsForLine, EndsForWords, EndsLine, EndsProgram, HeldSession, IsShown, IsToldUnopened, IsToldUnread, RanCall, RanHeaders, RanJob, RanSample, RanTask, detail_in, file_status, large_said, names_path, note_behind, seen, unread_said, unread_told};
 ghost use Rattle.ac_run.specs.Refusals.{line_of, status_of};
+ghost use Rattle.ac_session.specs.Turns.Named.{terms_with};
 ghost use Rattle.ac_words.specs.declared.form.Form.TheVariants.{Csv};
 ghost use Rattle.ac_cli.specs.Files.{ExplainsUnread, HoldsChanges, HoldsFile, HoldsNames, IsThere, names_text};
 ghost use Rattle.ac_words.specs.Words.{file_called, is_tabled, task_in};
@@ -177,18 +178,20 @@ fn held<F: Feed, Q: Feed + Drop, W: Sink + Drop, E: Sink>(
     tries: Option<u64>,
     detail: Option<&Paths<'_>>,
     changes: Option<&[u8]>,
+    names: Option<&[u8]>,
     inputs: &mut Inputs<F>,
     questions: Q,
     out: W,
     err: &mut E,
 ) -> (u8, W)
     ensures { HeldSession F.remaining F.failures Q.remaining Q.failures (detail_shown detail.entry)
-        (changes_shown changes.entry) version tries inputs.old inputs.new questions
+        (changes_shown changes.entry) (terms_with version (changes_shown names.entry)) tries
+        inputs.old inputs.new questions
         (seen W.taken W.failures E.taken E.failures out result.1 err.old err.new) result.0 }
 {
     match Lines::new(alloc, questions) {
         Ok(mut lines) => run_session(
-            alloc, version, tries, detail, changes, inputs, &mut lines, out, err,
+            alloc, version, tries, detail, changes, names, inputs, &mut lines, out, err,
         ),
         Err(_) => (tell(err, &Refused::of(alloc, Refusal::NoMemory)), out),
     }
@@ -384,7 +387,7 @@ fn answer_opened<F: Feed, Q: Feed + Drop, W: Sink + Drop, E: Sink>(
     ensures { RanCall F.remaining F.failures Q.remaining Q.failures
         (task_in words.now file.now (changes_shown changes.entry) (changes_shown names.entry)
         (detail_in words.now)) words.now
-        (changes_shown changes.entry) inputs.old inputs.new questions
+        (changes_shown changes.entry) (changes_shown names.entry) inputs.old inputs.new questions
         (seen W.taken W.failures E.taken E.failures out result.1 err.old err.new) result.0 }
 {
     let paths = words.paths();
@@ -397,6 +400,7 @@ fn answer_opened<F: Feed, Q: Feed + Drop, W: Sink + Drop, E: Sink>(
             words.tries(),
             detail,
             changes,
+            names,
             inputs,
             questions,
             out,

@@ -372,14 +372,14 @@ module _ (task : Task) (world : World) (asked : Task) (is : task_asked task worl
 pub asked_none : (task : Task) (world : World) → task.names ≡ None → task_asked task world ≡ Ok task
 asked_none task world none = rw none refl
 
--- a name of the query stands for nothing
-pub query_told : (naming : Naming) (task : Task) (why : NamesRefusal) → TellsNames (query_asked naming task.query) why → TellsNames (task_with_ids naming task) why
-query_told naming task names.NoMemory h = tt
-query_told naming task names.Unreadable h = rw h refl
-query_told naming task names.TooLarge h = rw h refl
-query_told naming task (names.Record row kind) h = rw h refl
-query_told naming task (names.Pair n f) h = rw h refl
-query_told naming task (names.Token f) h = rw h refl
+-- names that stand for nothing are told of what needs them
+pub tells_on : {X Y : Type 0} (found : Result X NamesRefusal) (needs : Result Y NamesRefusal) (why : NamesRefusal) → (found ≡ Err why → needs ≡ Err why) → TellsNames found why → TellsNames needs why
+tells_on found needs names.NoMemory on tells = tt
+tells_on found needs names.Unreadable on tells = on tells
+tells_on found needs names.TooLarge on tells = on tells
+tells_on found needs (names.Record row kind) on tells = on tells
+tells_on found needs (names.Pair n f) on tells = on tells
+tells_on found needs (names.Token f) on tells = on tells
 
 -- ---- an answer over a world
 

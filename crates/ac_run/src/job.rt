@@ -105,7 +105,7 @@ impl<'a> Command<'a> {
     }
 
     /// The same, with this token to judge or to begin after, where it has one.
-    pub(crate) fn with_token<'b>(&'b self, token: Option<&'b str>) -> Command<'b>
+    pub fn with_token<'b>(&'b self, token: Option<&'b str>) -> Command<'b>
         ensures { command_shown result
             ≡ with_token (command_shown self.now) (option_map (λ t. t.now) token.entry) }
     {

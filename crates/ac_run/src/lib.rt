@@ -22,11 +22,13 @@ pub use inputs::Inputs;
 pub use job::{Command, Job, Paths};
 pub use outputs::push_verdict;
 pub use ready::read_inputs;
-pub use refusal::lines::{asked_status, push_asked_line, tell};
+pub use refusal::lines::{asked_status, names_status, push_asked_line, push_names_line, tell};
 pub use refusal::{
     AnswerRefusal, AskRefusal, ChangesRefusal, FlavorsRefusal, NamesRefusal, Refusal, Refused,
     TablesRefusal,
 };
-pub use run_job::run;
+pub use run_job::{refuse_names, run};
 pub use wanted::mark::{has_path, past_mark};
+pub use wanted::named::Naming;
+pub use wanted::named::texts::read_names;
 pub use wanted::{Wanted, find_root, read_query, read_token, read_wanted};

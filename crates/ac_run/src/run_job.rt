@@ -9,7 +9,7 @@ ghost use Rattle.ac_run.specs.Answer.{answer, answer_named, answer_within};
 ghost use Rattle.ac_run.specs.Feeds.{Bytes, FeedRose, TellBytes};
 ghost use Rattle.ac_run.specs.Naming.{task_told};
 ghost use Rattle.ac_run.specs.Notes.{noted, noted_in};
-ghost use Rattle.ac_run.specs.Tasks.{task_of};
+ghost use Rattle.ac_run.specs.Tasks.{detail_shown, task_of};
 ghost use Rattle.ac_run.specs.Lines.{memory_line, output_line, tries_line};
 ghost use Rattle.ac_run.specs.Refusals.{IsNamesRefused, line_told, status_told};
 ghost use Rattle.ac_run.specs.Stops.{StopsIn, TaskMayStop};
@@ -18,7 +18,7 @@ ghost use Rattle.ac_base.specs.Writing.{TakesLine};
 
 use crate::answer::write_answer;
 use crate::inputs::Inputs;
-use crate::job::Job;
+use crate::job::{Job, Paths};
 use crate::ready::{make_ready, read_inputs};
 use crate::refusal::details::names_detail;
 use crate::refusal::lines::tell;
@@ -66,11 +66,11 @@ fn answer_over<W: Sink>(
     }
 }
 
-// Why names can't be read, with what stands behind that line.
-fn refuse_names(alloc: Global, job: &Job, refusal: NamesRefusal) -> Refused
-    ensures { IsNamesRefused (task_of job.now).detail refusal result }
+/// Why names can't be read, with what stands behind that line where more is told.
+pub fn refuse_names(alloc: Global, detail: Option<&Paths>, refusal: NamesRefusal) -> Refused
+    ensures { IsNamesRefused (detail_shown detail.entry) refusal result }
 {
-    let text = names_detail(alloc, job.detail, refusal);
+    let text = names_detail(alloc, detail, refusal);
     Refused::new(alloc, Refusal::Names(refusal), text)
 }
 
@@ -99,15 +99,15 @@ fn answer_named<W: Sink>(
 {
     let called = match read_names(alloc, table) {
         Ok(called) => called,
-        Err(refusal) => return Err(refuse_names(alloc, job, refusal)),
+        Err(refusal) => return Err(refuse_names(alloc, job.detail, refusal)),
     };
     let naming = match Naming::new(alloc, cloud, &called) {
         Ok(naming) => naming,
-        Err(NoMemory) => return Err(refuse_names(alloc, job, NamesRefusal::NoMemory)),
+        Err(NoMemory) => return Err(refuse_names(alloc, job.detail, NamesRefusal::NoMemory)),
     };
     let texts = match Texts::read(alloc, job, &naming) {
         Ok(texts) => texts,
-        Err(refusal) => return Err(refuse_names(alloc, job, refusal)),
+        Err(refusal) => return Err(refuse_names(alloc, job.detail, refusal)),
     };
     answer_over(alloc, &texts.job(job), cloud, Some(&naming.providers), out)
 }

@@ -19,10 +19,11 @@ const INVENTORIES: &str =
 
 const USAGES: &str = "resource_provider,resource_class,usage\n@1,VCPU,3\n";
 
-// How the devices of a session go, and whether it is held in detail.
+// How the devices of a session go, whether it is held in detail, and the table of names of aggregates where names stand in place of UUIDs.
 #[derive(Clone, Copy)]
 struct Turns<'a> {
     detail: bool,
+    names: Option<&'a [u8]>,
     providers: &'a [Turn],
     questions: &'a [Turn],
     out: &'a [Turn],
@@ -31,6 +32,7 @@ struct Turns<'a> {
 
 const SOUND: Turns<'static> = Turns {
     detail: false,
+    names: None,
     providers: &[],
     questions: &[],
     out: &[],
@@ -79,6 +81,7 @@ fn run_texts(alloc: Global, texts: &Texts, turns: Turns) -> Result<Left, AllocEr
         None,
         detail,
         None,
+        turns.names,
         &mut inputs,
         &mut lines,
         out,

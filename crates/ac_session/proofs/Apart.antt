@@ -123,7 +123,7 @@ any_read None some rest = absurd (some refl)
 any_read (Some o) some rest = answer_read o rest
 
 pub answers_apart : AnswersApart
-answers_apart version held given = any_read (turn_of version held given).answer
+answers_apart terms held given = any_read (turn_of terms held given).answer
 
 -- ---- one after another
 
@@ -137,17 +137,17 @@ turn_read [] rest others apart later = later
 turn_read (byte ∷ text) rest others apart later = one_read (byte ∷ text) rest (length others) others (apart (λ e. absurd cc) rest) later
 
 pub sessions_apart : SessionsApart
-sessions_apart version held [] = refl
-sessions_apart version held (given ∷ others) =
-    let turn = turn_of version held given in
-    turn_read (text_of turn) (session_text version turn.state others) (answers_of version turn.state others) (answers_apart version held given)
-    (sessions_apart version turn.state others)
+sessions_apart terms held [] = refl
+sessions_apart terms held (given ∷ others) =
+    let turn = turn_of terms held given in
+    turn_read (text_of turn) (session_text terms turn.state others) (answers_of terms turn.state others) (answers_apart terms held given)
+    (sessions_apart terms turn.state others)
 
 -- where searches stopped as well
 pub stopped_apart : StoppedApart
-stopped_apart version held [] lines = sessions_apart version held lines
-stopped_apart version held (stop ∷ stops) [] = refl
-stopped_apart version held (stop ∷ stops) (given ∷ others) =
-    let turn = turn_at version held stop given in
-    turn_read (text_of turn) (text_with version turn.state stops others) (answers_with version turn.state stops others) (any_read turn.answer)
-    (stopped_apart version turn.state stops others)
+stopped_apart terms held [] lines = sessions_apart terms held lines
+stopped_apart terms held (stop ∷ stops) [] = refl
+stopped_apart terms held (stop ∷ stops) (given ∷ others) =
+    let turn = turn_at terms held stop given in
+    turn_read (text_of turn) (text_with terms turn.state stops others) (answers_with terms turn.state stops others) (any_read turn.answer)
+    (stopped_apart terms turn.state stops others)

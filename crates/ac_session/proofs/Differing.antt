@@ -7,7 +7,7 @@ use Rattle.std.specs.Cmp.Lexicographic.{bytes_decides}
 use Rattle.std.specs.List.{AllByRecursion, flat_map, range_with_len}
 use Rattle.std.specs.List.Sorted.{IsStrictlySortedBy}
 use Rattle.std.specs.Map.{keys_of, lookup}
-use Rattle.std.specs.Prelude.{◌==◌, nat_le, if◌then◌else◌}
+use Rattle.std.specs.Prelude.{◌==◌, nat_le, if◌then◌else◌, Result, Ok, Err, IfOk}
 use Rattle.std.specs.Str.{bytes_eq}
 use Rattle.ac_base.specs.Texts.{text_cmp}
 use Rattle.ac_cloud.proofs.Amounts.{amounts_again, amounts_kept, amounts_same_found}
@@ -16,19 +16,25 @@ use Rattle.ac_cloud.proofs.Places.AmountFacts.{kept}
 use Rattle.ac_cloud.specs.Amounts.{amount_at, provider_using, with_amounts}
 use Rattle.ac_cloud.specs.World.{Provider, UsedInventory, World, entry_in, provider_at}
 use Rattle.ac_fill.specs.Filled.{after, filled}
+use Rattle.ac_report.specs.Called.{providers_called}
 use Rattle.ac_query.specs.Asked.{Asked as Query}
 use Rattle.ac_query.specs.Laws.Gathered.{asked_by}
 use Rattle.ac_query.specs.Pairs.{pairs_of}
 use Rattle.ac_query.specs.declared.version.Version.{Version}
 use Rattle.ac_rules.specs.Claims.{claimed, moved, released}
 use Rattle.ac_rules.specs.Placed.{Placed, assigned}
+use Rattle.ac_run.specs.declared.refusal.NamesRefusal.{NamesRefusal}
+use Rattle.ac_session.proofs.ByNames.{kind_kept, names_kept, still_known}
 use Rattle.ac_session.specs.Held.{Claim, Held, Mark}
 use Rattle.ac_session.proofs.UsageRows.Checks.{apart_of}
-use Rattle.ac_session.specs.Laws.{MarksStay, held_behind}
+use Rattle.ac_session.specs.Laws.{LeavesMarks, MarksStay, held_behind}
 use Rattle.ac_session.specs.Lines.{Given, line, too_long, end}
 use Rattle.ac_session.specs.Marks.{Kept, kept_at, kept_entry, kept_of, restored, used_again}
 use Rattle.ac_session.specs.Questions.{Asked, asked_of, back, claim, fill, help, job, left_at, mark, move, nothing, place, release, release_name, unknown, usages, wrong_number}
-use Rattle.ac_session.specs.Turns.{after_fill, back_to, back_turn, claim_turn, claimed_as, fill_turn, mark_turn, move_turn, moved_as, named_claim_turn, named_move_turn, named_place_turn, named_release_turn, place_turn, placed_as, release_turn, released_as, turn_asked, turn_of, world_after}
+use Rattle.ac_session.specs.Turns.{after_fill, back_to, back_turn, claim_turn, claimed_as, fill_turn, mark_turn, move_turn, moved_as, named_claim_turn, named_move_turn, named_place_turn, named_release_turn, place_turn, placed_as, release_turn, released_as, turn_by_ids, turn_of, turn_told, world_after}
+use Rattle.ac_session.specs.Tries.{turn_at}
+use Rattle.ac_session.specs.Turns.Named.{Knows, Terms, asked_told, asked_with, terms_of}
+use Rattle.ac_session.specs.declared.turns.terms.Terms as rust
 
 abbrev Amount : Type 0
 Amount = ℕ → List ℕ → UsedInventory → ℕ
@@ -77,7 +83,10 @@ module _ (first : World) where
 
   -- ---- behind turns
 
-  module _ (version : Version) where
+  module _ (terms : Terms) where
+    abbrev version : Version
+    version = terms.version
+
     claim_using : (query token : List ℕ) (now : World) → IsUsing first now → IsUsing first (claim_turn version query token now).state
     unfolding claim_turn
     claim_using query token now known = using_after 0 _ now _ known (using_claimed now _ known)
@@ -90,14 +99,14 @@ module _ (first : World) where
     unfolding move_turn moved
     move_using query from to now known = using_after 0 _ now _ known (using_claimed (record now { providers = released now.providers _ }) _ (using_released now _ known))
 
-    place_using : (query : List ℕ) (host : Option (List ℕ)) (now : World) → IsUsing first now → IsUsing first (place_turn version query host now).state
+    place_using : (query : List ℕ) (host : Option (List ℕ)) (now : World) → IsUsing first now → IsUsing first (place_turn terms query host now).state
     unfolding place_turn
     place_using query host now known = using_after 0 _ now _ known (using_claimed now _ known)
 
-    fill_using : (query : List ℕ) (now : World) → IsUsing first now → IsUsing first (fill_turn version query now).state
+    fill_using : (query : List ℕ) (now : World) → IsUsing first now → IsUsing first (fill_turn terms query now).state
     unfolding fill_turn
     fill_using query now known =
-        let asked = asked_by version (pairs_of query) in
+        let asked = asked_by terms.version (pairs_of query) in
         using_after 1 _ now (after_fill now.providers asked) known (using_placed now asked (filled asked.limit now.providers asked) known)
 
     claimed_as_using : (query token name : List ℕ) (held : Held) (found : Option Claim) → IsUsing first held.world → IsUsing first (claimed_as version query token name held found).state.world
@@ -105,7 +114,7 @@ module _ (first : World) where
     claimed_as_using query token name held (Some made) known = known
 
     placed_as_using : (query : List ℕ) (host : Option (List ℕ)) (name : List ℕ) (held : Held) (found : Option Claim) → IsUsing first held.world
-        → IsUsing first (placed_as version query host name held found).state.world
+        → IsUsing first (placed_as terms query host name held found).state.world
     placed_as_using query host name held None known = place_using query host held.world known
     placed_as_using query host name held (Some made) known = known
 
@@ -121,35 +130,47 @@ module _ (first : World) where
     back_using held [] known = known
     back_using held (m ∷ marks) known = using_restored held.world m.used known
 
-    asked_using : (held : Held) (asked : Asked) → IsUsing first held.world → IsUsing first (turn_asked version held asked).state.world
+    by_ids_using : (held : Held) (asked : Asked) → IsUsing first held.world → IsUsing first (turn_by_ids terms held asked).state.world
     unfolding named_claim_turn named_place_turn named_release_turn named_move_turn
-    asked_using held (job task) known = known
-    asked_using held (fill query) known = fill_using query held.world known
-    asked_using held (place query None host) known = place_using query host held.world known
-    asked_using held (place query (Some name) host) known = placed_as_using query host name held (held.named name) known
-    asked_using held (claim query token None) known = claim_using query token held.world known
-    asked_using held (claim query token (Some name)) known = claimed_as_using query token name held (held.named name) known
-    asked_using held (release query token) known = release_using query token held.world known
-    asked_using held (release_name name) known = released_as_using name held (held.named name) known
-    asked_using held (move name token) known = moved_as_using name token held (held.named name) known
-    asked_using held mark known = known
-    asked_using held back known = back_using held held.marks known
-    asked_using held usages known = known
-    asked_using held (left_at host) known = known
-    asked_using held help known = known
-    asked_using held nothing known = known
-    asked_using held unknown known = known
-    asked_using held wrong_number known = known
+    by_ids_using held (job task) known = known
+    by_ids_using held (fill query) known = fill_using query held.world known
+    by_ids_using held (place query None host) known = place_using query host held.world known
+    by_ids_using held (place query (Some name) host) known = placed_as_using query host name held (held.named name) known
+    by_ids_using held (claim query token None) known = claim_using query token held.world known
+    by_ids_using held (claim query token (Some name)) known = claimed_as_using query token name held (held.named name) known
+    by_ids_using held (release query token) known = release_using query token held.world known
+    by_ids_using held (release_name name) known = released_as_using name held (held.named name) known
+    by_ids_using held (move name token) known = moved_as_using name token held (held.named name) known
+    by_ids_using held mark known = known
+    by_ids_using held back known = back_using held held.marks known
+    by_ids_using held usages known = known
+    by_ids_using held (left_at host) known = known
+    by_ids_using held help known = known
+    by_ids_using held nothing known = known
+    by_ids_using held unknown known = known
+    by_ids_using held wrong_number known = known
 
-    turn_using : (held : Held) (given : Given) → IsUsing first held.world → IsUsing first (turn_of version held given).state.world
+    told_using : (held : Held) (told : Result Asked NamesRefusal) → IsUsing first held.world → IsUsing first (turn_told terms held told).state.world
+    told_using held (Ok asked) known = by_ids_using held asked known
+    told_using held (Err why) known = known
+
+    pub turn_using : (held : Held) (given : Given) → IsUsing first held.world → IsUsing first (turn_of terms held given).state.world
     unfolding turn_of
-    turn_using held (line text) known = asked_using held (asked_of version text) known
+    turn_using held (line text) known = told_using held (asked_told terms held.world (asked_of version text)) known
     turn_using held too_long known = known
     turn_using held end known = known
 
-    pub lines_using : (held : Held) (lines : List Given) → IsUsing first held.world → IsUsing first (held_behind version held lines).world
+    pub lines_using : (held : Held) (lines : List Given) → IsUsing first held.world → IsUsing first (held_behind terms held lines).world
     lines_using held [] known = known
-    lines_using held (given ∷ others) known = lines_using (turn_of version held given).state others (turn_using held given known)
+    lines_using held (given ∷ others) known = lines_using (turn_of terms held given).state others (turn_using held given known)
+
+-- so what names stand for stays known, whether its search stopped or not
+pub known_behind : (t : rust.Terms) (held : Held) (stop : Option (List ℕ)) (given : Given) (now : Held) → now ≡ (turn_at (terms_of t) held stop given).state → Knows t held.world → Knows t now.world
+known_behind t held None given now is known =
+    let behind = turn_using held.world (terms_of t) held given (using_same held.world) in
+    subst (λ now. Knows t now.world) (sym is)
+    (still_known held.world (turn_of (terms_of t) held given).state.world (ap providers_called behind.providers ∙ names_kept behind.amount held.world.providers) t known)
+known_behind t held (Some written) given now is known = subst (λ now. Knows t now.world) (sym is) known
 
 -- ---- what is kept
 
@@ -292,38 +313,64 @@ back_to_mark held now sorted known same =
     ∙ ap₂ (λ providers sizes. record { world = record { providers = providers; sizes = sizes }; named = held.named; marks = held.marks })
     (ap (restored (kept_of held.world.providers)) known.providers ∙ restored_kept held.world.providers known.amount sorted) known.sizes
 
+module _ (terms : Terms) (held : Held) where
+  by_ids_stay : (asked : Asked) → LeavesMarks asked → (turn_by_ids terms held asked).state.marks ≡ held.marks
+  unfolding named_claim_turn named_place_turn named_release_turn named_move_turn
+  by_ids_stay (job task) other = refl
+  by_ids_stay (fill query) other = refl
+  by_ids_stay (place query None host) other = refl
+  by_ids_stay (place query (Some name) host) other = by (held.named name)
+    where
+      by : (found : Option Claim) → (placed_as terms query host name held found).state.marks ≡ held.marks
+      by None = refl
+      by (Some made) = refl
+  by_ids_stay (claim query token None) other = refl
+  by_ids_stay (claim query token (Some name)) other = by (held.named name)
+    where
+      by : (found : Option Claim) → (claimed_as terms.version query token name held found).state.marks ≡ held.marks
+      by None = refl
+      by (Some made) = refl
+  by_ids_stay (release query token) other = refl
+  by_ids_stay (release_name name) other = by (held.named name)
+    where
+      by : (found : Option Claim) → (released_as terms.version name held found).state.marks ≡ held.marks
+      by None = refl
+      by (Some made) = refl
+  by_ids_stay (move name token) other = by (held.named name)
+    where
+      by : (found : Option Claim) → (moved_as terms.version name token held found).state.marks ≡ held.marks
+      by None = refl
+      by (Some made) = refl
+  by_ids_stay mark other = absurd other
+  by_ids_stay back other = absurd other
+  by_ids_stay usages other = refl
+  by_ids_stay (left_at host) other = refl
+  by_ids_stay help other = refl
+  by_ids_stay nothing other = refl
+  by_ids_stay unknown other = refl
+  by_ids_stay wrong_number other = refl
+
+  told_stay : (told : Result Asked NamesRefusal) → IfOk told LeavesMarks → (turn_told terms held told).state.marks ≡ held.marks
+  told_stay (Ok asked) other = by_ids_stay asked other
+  told_stay (Err why) other = refl
+
+-- other texts don't make it a mark, nor a way back
+leaves_marks : (asked : Asked) (query token : Option (List ℕ)) → LeavesMarks asked → LeavesMarks (asked_with asked query token)
+leaves_marks (job task) query token other = tt
+leaves_marks (fill old) query token other = tt
+leaves_marks (place old name host) query token other = tt
+leaves_marks (claim old was name) query token other = tt
+leaves_marks (release old was) query token other = tt
+leaves_marks (release_name name) query token other = tt
+leaves_marks (move name was) query token other = tt
+leaves_marks mark query token other = other
+leaves_marks back query token other = other
+leaves_marks usages query token other = tt
+leaves_marks (left_at host) query token other = tt
+leaves_marks help query token other = tt
+leaves_marks nothing query token other = tt
+leaves_marks unknown query token other = tt
+leaves_marks wrong_number query token other = tt
+
 pub marks_stay : MarksStay
-unfolding named_claim_turn named_place_turn named_release_turn named_move_turn
-marks_stay version held (job task) other = refl
-marks_stay version held (fill query) other = refl
-marks_stay version held (place query None host) other = refl
-marks_stay version held (place query (Some name) host) other = by (held.named name)
-  where
-    by : (found : Option Claim) → (placed_as version query host name held found).state.marks ≡ held.marks
-    by None = refl
-    by (Some made) = refl
-marks_stay version held (claim query token None) other = refl
-marks_stay version held (claim query token (Some name)) other = by (held.named name)
-  where
-    by : (found : Option Claim) → (claimed_as version query token name held found).state.marks ≡ held.marks
-    by None = refl
-    by (Some made) = refl
-marks_stay version held (release query token) other = refl
-marks_stay version held (release_name name) other = by (held.named name)
-  where
-    by : (found : Option Claim) → (released_as version name held found).state.marks ≡ held.marks
-    by None = refl
-    by (Some made) = refl
-marks_stay version held (move name token) other = by (held.named name)
-  where
-    by : (found : Option Claim) → (moved_as version name token held found).state.marks ≡ held.marks
-    by None = refl
-    by (Some made) = refl
-marks_stay version held mark other = absurd other
-marks_stay version held back other = absurd other
-marks_stay version held usages other = refl
-marks_stay version held (left_at host) other = refl
-marks_stay version held help other = refl
-marks_stay version held nothing other = refl
-marks_stay version held unknown other = refl
-marks_stay version held wrong_number other = refl
+marks_stay terms held asked other = told_stay terms held (asked_told terms held.world asked) (kind_kept LeavesMarks leaves_marks terms held.world asked other)

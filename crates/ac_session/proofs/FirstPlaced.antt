@@ -62,9 +62,9 @@ host_refused version query all host asked (ask.Answer f) fine is h say told = ab
 host_refused version query all host asked ask.NoMemory fine is h say told = absurd (told refl)
 
 -- no line is told of a placement
-pub said_plainly : (all : List Provider) (found : Option (List ℕ)) → (placed_said all found).line ≡ []
-said_plainly all None = refl
-said_plainly all (Some list) = refl
+pub said_plainly : (named : Bool) (all : List Provider) (found : Option (List ℕ)) → (placed_said named all found).line ≡ []
+said_plainly named all None = refl
+said_plainly named all (Some list) = refl
 
 -- nothing is done, so nothing is known of what is given beside it
 pub nothing_told : {X : Type 0} (given : Result (Ending × X) AnswerFault) (answered : Result Ending AnswerFault) → ending_in given ≡ answered

@@ -1,5 +1,6 @@
 pub mod Rooms
 pub mod Leading
+pub mod ByNames
 pub mod Cuts
 pub mod Names
 pub mod Escaped

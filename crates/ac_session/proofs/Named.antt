@@ -8,7 +8,7 @@ use Rattle.std.specs.Io.KnownBytes.{Appends}
 use Rattle.ac_base.proofs.Leaving.{part_none}
 use Rattle.ac_base.specs.Devices.{TakesPart}
 use Rattle.ac_cloud.specs.World.{World}
-use Rattle.ac_run.specs.Refusals.{status_of_asked}
+use Rattle.ac_run.specs.Refusals.{status_of_asked, status_of_names}
 use Rattle.ac_session.specs.Held.{Claim, Held, Mark, Named, claim_shown, holding, standing}
 use Rattle.ac_session.specs.declared.turns.names.Claim as rust
 use Rattle.ac_session.specs.Questions.LineFaults.{fault_status}
@@ -52,6 +52,7 @@ module _ (may : Type 0) (world now : World) (turn : Turn World) (a b : Option (L
       at ending.Stopped is = ap (λ w. holding w named marks) is
       at (ending.Given status) is = ap (λ w. holding w named marks) is
       at (ending.Refused refusal) is = ap (λ w. holding w named marks) is
+      at (ending.Unnamed why) is = ap (λ w. holding w named marks) is
       at (ending.Faulted f) is = ap (λ w. holding w named marks) is
       at ending.Unasked is = ap (λ w. holding w named marks) is
 
@@ -83,6 +84,7 @@ module _ (may : Type 0) (world now : World) (turn : Turn World) (a b : Option (L
           by ending.Stopped closes now_is is = ap₂ (λ (w : World) (names : Named). holding w names marks) now_is is
           by (ending.Given status) closes now_is is = at (Some status) closes.status now_is is
           by (ending.Refused refusal) closes now_is is = at (Some (status_of_asked refusal)) closes.status now_is is
+          by (ending.Unnamed why) closes now_is is = at (Some (status_of_names why)) closes.status now_is is
           by (ending.Faulted f) closes now_is is = at (Some fault_status) closes.status now_is is
           by ending.Unasked closes now_is is = at None closes.status now_is is
 
@@ -97,6 +99,7 @@ module _ (may : Type 0) (world now : World) (turn : Turn World) (a b : Option (L
           by ending.Stopped closes = closes.1
           by (ending.Given status) closes = written_part a b (output_of turn.answer) closes.output
           by (ending.Refused refusal) closes = written_part a b (output_of turn.answer) closes.output
+          by (ending.Unnamed why) closes = written_part a b (output_of turn.answer) closes.output
           by (ending.Faulted f) closes = written_part a b (output_of turn.answer) closes.output
           by ending.Unasked closes = written_part a b (output_of turn.answer) closes.output
 
@@ -148,6 +151,7 @@ module _ {may : Type 0} {held : Held} {turn : Turn World} {now : Held} {a b : Op
           of ending.Stopped so closes is = is
           of (ending.Given status) so closes is = at (Some status) so closes.status is
           of (ending.Refused refusal) so closes is = at (Some (status_of_asked refusal)) so closes.status is
+          of (ending.Unnamed why) so closes is = at (Some (status_of_names why)) so closes.status is
           of (ending.Faulted f) so closes is = at (Some fault_status) so closes.status is
           of ending.Unasked so closes is = at None so closes.status is
       by (Err e) is closes state = tt

@@ -16,13 +16,17 @@ use Rattle.ac_query.specs.declared.fault.QueryFault.{QueryFault}
 use Rattle.ac_query.specs.declared.fault.QueryFault.TheVariants as query
 use Rattle.ac_query.specs.Shown.Faults.{fault_shown}
 use Rattle.ac_query.specs.declared.token.TokenFault.TheVariants as token
-use Rattle.ac_run.specs.Lines.{answer_line, group_line, host_line, memory_line, pair_line, query_line, token_line}
+use Rattle.ac_report.specs.declared.called.NameFault.{NameFault}
+use Rattle.ac_report.specs.declared.called.NameFault.TheVariants as name
+use Rattle.ac_run.specs.Lines.{aggregates_name, answer_line, called_line, group_line, host_line, memory_line, name_fault, names_line, pair_line, query_line, token_line}
 use Rattle.ac_run.specs.Flavors.{flavor_line, flavors_name, large_line, query_name, query_told, unread_line, why_shown}
 use Rattle.ac_run.specs.Refusals.{line_of_asked}
 use Rattle.ac_run.specs.declared.refusal.AnswerRefusal.{AnswerRefusal}
 use Rattle.ac_run.specs.declared.refusal.AnswerRefusal.TheVariants as answer
 use Rattle.ac_run.specs.declared.refusal.FlavorsRefusal.{FlavorsRefusal}
 use Rattle.ac_run.specs.declared.refusal.FlavorsRefusal.TheVariants as flavors
+use Rattle.ac_run.specs.declared.refusal.NamesRefusal.{NamesRefusal}
+use Rattle.ac_run.specs.declared.refusal.NamesRefusal.TheVariants as names
 use Rattle.ac_tables.specs.Tables.Names.{kind_name}
 use Rattle.ac_tables.specs.declared.fault.TableKind.{TableKind}
 use Rattle.ac_tables.specs.declared.fault.TableKind.TheVariants as kind
@@ -193,3 +197,23 @@ refusal_one (ask.Host host.Ambiguous) = line_end {a = codes "host: Ambiguous"} (
 refusal_one (ask.Flavors f) = flavors_one f
 refusal_one (ask.Answer f) = answer_one f
 refusal_one ask.NoMemory = line_end {a = codes "out of memory"} (plain refl)
+
+called_one : (row : ℕ) (name : List ℕ) → IsPlain name → IsLine (called_line row name)
+unfolding called_line aggregates_name
+called_one row name p =
+    line_behind {a = aggregates_name} (plain refl) (line_behind {a = codes ": record "} (plain refl) (line_behind (plain_number row) (line_behind {a = codes ": "} (plain refl) (line_behind p (line_end {a = []} (plain refl))))))
+
+plain_name : (f : NameFault) → IsPlain (name_fault f)
+unfolding name_fault
+plain_name name.Unknown = plain refl
+plain_name name.Ambiguous = plain refl
+
+-- so are names that can't be read
+pub names_one : (refusal : NamesRefusal) → IsLine (names_line refusal)
+unfolding names_line memory_line
+names_one names.Unreadable = line_end {a = codes "aggregate-names: Unreadable"} (plain refl)
+names_one names.TooLarge = line_end {a = codes "aggregate-names: TooLarge"} (plain refl)
+names_one (names.Record row k) = called_one row (kind_name k) (plain_kind k)
+names_one (names.Pair n f) = pair_one n (name_fault f) (plain_name f)
+names_one (names.Token f) = line_behind {a = codes "token: "} (plain refl) (line_behind (plain_name f) (line_end {a = []} (plain refl)))
+names_one names.NoMemory = line_end {a = codes "out of memory"} (plain refl)

@@ -2,7 +2,7 @@
 use Rattle.std.proofs.Common.{◌≡◌, ◌∙◌, ℕ, ◌<◌, ◌≤◌, length, arith, inl, inr, nat_le, if◌then◌else◌, Bool, true, false, List, [], Option, Some, None, refl, sym, ap, ap₂, subst}
 use Rattle.std.specs.List.{All}
 use Rattle.std.specs.Option.{IfSome, option_map, unwrap_or}
-use Rattle.std.specs.Prelude.{Result, Err, is_some}
+use Rattle.std.specs.Prelude.{IfOk, Result, Ok, Err, is_some}
 use Rattle.std.proofs.lemmas.Bool.{cases_Bool, lt-leb}
 use Rattle.std.proofs.lemmas.List.Elements.{All-from_recursion}
 use Rattle.ac_cloud.specs.World.{Provider, World}
@@ -36,11 +36,15 @@ use Rattle.ac_run.specs.declared.wanted.Wanted.{Wanted}
 use Rattle.ac_run.specs.declared.wanted.Wanted.TheVariants as wanted
 use Rattle.ac_run.specs.declared.refusal.AskRefusal.{AskRefusal}
 use Rattle.ac_run.specs.declared.refusal.AskRefusal.TheVariants as ask
+use Rattle.ac_run.specs.declared.refusal.NamesRefusal.{NamesRefusal}
+use Rattle.ac_session.proofs.ByNames.{kind_kept}
 use Rattle.ac_session.proofs.Written.{turn_whole}
-use Rattle.ac_session.specs.Laws.{AskingLeavesAll, ClaimTurnsNarrow}
-use Rattle.ac_session.specs.Questions.{back, claim, fill, help, job, left_at, mark, move, nothing, place, release, release_name, unknown, usages, wrong_number}
+use Rattle.ac_session.specs.Held.{Held}
+use Rattle.ac_session.specs.Laws.{AskingLeavesAll, ClaimTurnsNarrow, OnlyAsks}
+use Rattle.ac_session.specs.Turns.Named.{asked_told, asked_with, Terms}
+use Rattle.ac_session.specs.Questions.{Asked as Question, back, claim, fill, help, job, left_at, mark, move, nothing, place, release, release_name, unknown, usages, wrong_number}
 use Rattle.ac_session.specs.Standing.{Gives, IsRefusal, TakesTurn}
-use Rattle.ac_session.specs.Turns.{claim_line, claim_of, claim_said, claim_turn, is_done, move_line, move_of, move_said, move_turn, places_named, placed_by, release_line, release_of, release_said, release_turn, settles, world_after}
+use Rattle.ac_session.specs.Turns.{claim_line, claim_of, claim_said, claim_turn, is_done, move_line, move_of, move_said, move_turn, places_named, placed_by, release_line, release_of, release_said, release_turn, settles, turn_by_ids, turn_told, world_after}
 use Rattle.ac_session.specs.declared.endings.AnswerFault.{AnswerFault}
 use Rattle.ac_session.specs.declared.endings.Ending.{Ending}
 
@@ -57,21 +61,21 @@ pub delivers_stopped : {May : Type 0} {o : Outcome} {r : Result ℕ PageFault} {
 delivers_stopped done = record { few = done.few; ok = done.ok; part = done.part; failed = done.failed; stopped = λ e. e; failures = done.failures }
 
 -- nothing is refused that is searched for
-pub not_refused : (wanted : Wanted) (tries : Option ℕ) (world : World) → AnswerMayStop wanted tries world.providers → (answer_to false wanted world).line ≡ []
-not_refused wanted.Counts tries world may = absurd may
-not_refused (wanted.Body page traits) tries world may = refl
-not_refused (wanted.Lines page) tries world may = refl
-not_refused (wanted.Rows page traits) tries world may = refl
-not_refused (wanted.Fill query sum) tries world may = refl
-not_refused (wanted.Verdict query token detail) tries world may = absurd may
-not_refused (wanted.Explanation question) tries world may = refl
-not_refused (wanted.Hosts query sum within) tries world may = refl
-not_refused (wanted.Why query host) tries world may = refl
-not_refused (wanted.Capacity plans metrics) tries world may = refl
-not_refused (wanted.Comparison query answer) tries world may = refl
-not_refused (wanted.Amiss _) tries world may = absurd may
-not_refused (wanted.Reading query) tries world may = absurd may
-not_refused wanted.Parameters tries world may = absurd may
+pub not_refused : (named : Bool) (wanted : Wanted) (tries : Option ℕ) (world : World) → AnswerMayStop wanted tries world.providers → (answer_to named wanted world).line ≡ []
+not_refused named wanted.Counts tries world may = absurd may
+not_refused named (wanted.Body page traits) tries world may = refl
+not_refused named (wanted.Lines page) tries world may = refl
+not_refused named (wanted.Rows page traits) tries world may = refl
+not_refused named (wanted.Fill query sum) tries world may = refl
+not_refused named (wanted.Verdict query token detail) tries world may = absurd may
+not_refused named (wanted.Explanation question) tries world may = refl
+not_refused named (wanted.Hosts query sum within) tries world may = refl
+not_refused named (wanted.Why query host) tries world may = refl
+not_refused named (wanted.Capacity plans metrics) tries world may = refl
+not_refused named (wanted.Comparison query answer) tries world may = refl
+not_refused named (wanted.Amiss _) tries world may = absurd may
+not_refused named (wanted.Reading query) tries world may = absurd may
+not_refused named wanted.Parameters tries world may = absurd may
 
 pub query_refused : (version : Version) (query : List ℕ) (refusal : AskRefusal) → ExplainsQuery (query_fault version query) refusal
     → (say : Says) (token : Option (List ℕ)) → IsRefusal refusal (past_query say token version query)
@@ -225,22 +229,48 @@ module _ {V : Type 0} (items : V → List ℕ) (all : List Provider) (ids : List
 
 -- ---- laws
 
+module _ (terms : Terms) (held : Held) where
+  by_ids_leave : (asked : Question) → OnlyAsks asked → (turn_by_ids terms held asked).state ≡ held
+  by_ids_leave (job task) h = refl
+  by_ids_leave (fill query) h = absurd h
+  by_ids_leave (place query name host) h = absurd h
+  by_ids_leave (claim query token name) h = absurd h
+  by_ids_leave (release query token) h = absurd h
+  by_ids_leave (release_name name) h = absurd h
+  by_ids_leave (move name token) h = absurd h
+  by_ids_leave mark h = absurd h
+  by_ids_leave back h = absurd h
+  by_ids_leave usages h = refl
+  by_ids_leave (left_at host) h = refl
+  by_ids_leave help h = refl
+  by_ids_leave nothing h = refl
+  by_ids_leave unknown h = refl
+  by_ids_leave wrong_number h = refl
+
+  told_leave : (told : Result Question NamesRefusal) → IfOk told OnlyAsks → (turn_told terms held told).state ≡ held
+  told_leave (Ok asked) h = by_ids_leave asked h
+  told_leave (Err why) h = refl
+
+-- other texts ask no more
+only_asks : (asked : Question) (query token : Option (List ℕ)) → OnlyAsks asked → OnlyAsks (asked_with asked query token)
+only_asks (job task) query token h = tt
+only_asks (fill old) query token h = h
+only_asks (place old name host) query token h = h
+only_asks (claim old was name) query token h = h
+only_asks (release old was) query token h = h
+only_asks (release_name name) query token h = h
+only_asks (move name was) query token h = h
+only_asks mark query token h = h
+only_asks back query token h = h
+only_asks usages query token h = tt
+only_asks (left_at host) query token h = tt
+only_asks help query token h = tt
+only_asks nothing query token h = tt
+only_asks unknown query token h = tt
+only_asks wrong_number query token h = tt
+
 pub asking_leaves_all : AskingLeavesAll
-asking_leaves_all version held (job task) h = refl
-asking_leaves_all version held (fill query) h = absurd h
-asking_leaves_all version held (place query name host) h = absurd h
-asking_leaves_all version held (claim query token name) h = absurd h
-asking_leaves_all version held (release query token) h = absurd h
-asking_leaves_all version held (release_name name) h = absurd h
-asking_leaves_all version held (move name token) h = absurd h
-asking_leaves_all version held mark h = absurd h
-asking_leaves_all version held back h = absurd h
-asking_leaves_all version held usages h = refl
-asking_leaves_all version held (left_at host) h = refl
-asking_leaves_all version held help h = refl
-asking_leaves_all version held nothing h = refl
-asking_leaves_all version held unknown h = refl
-asking_leaves_all version held wrong_number h = refl
+asking_leaves_all terms held asked h = told_leave terms held (asked_told terms held.world asked) (kind_kept OnlyAsks only_asks terms held.world asked h)
 
 narrowed : (world : World) (status : ℕ) (xs : List Placed) (asked : Asked) (list : List ℕ)
     → is_candidate (world_after 0 world status (claimed world.providers xs)).providers asked list ≡ true → is_candidate world.providers asked list ≡ true

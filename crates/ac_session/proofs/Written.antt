@@ -7,20 +7,21 @@ use Rattle.std.specs.Io.KnownBytes.{Appends, Keeps, append_known}
 use Rattle.ac_base.specs.Devices.{TakesPart}
 use Rattle.ac_base.specs.Gathered.{IsFirstPart}
 use Rattle.ac_run.specs.Answer.{Outcome}
-use Rattle.ac_query.specs.declared.version.Version.{Version}
-use Rattle.ac_run.specs.Lines.{tries_line}
-use Rattle.ac_run.specs.Refusals.{line_of_asked, status_of_asked}
+use Rattle.ac_run.specs.Lines.{names_line, tries_line}
+use Rattle.ac_run.specs.Refusals.{line_of_asked, status_of_asked, status_of_names}
 use Rattle.ac_run.specs.declared.refusal.AskRefusal.{AskRefusal}
-use Rattle.ac_session.proofs.Plain.{line_told, refusal_one}
+use Rattle.ac_run.specs.declared.refusal.NamesRefusal.{NamesRefusal}
+use Rattle.ac_session.proofs.Plain.{IsLine, line_told, names_one, refusal_one}
 use Rattle.ac_session.proofs.Stood.{first_none, first_of_first, none_added}
 use Rattle.ac_session.specs.Escapes.{begun, marked_off}
-use Rattle.ac_session.specs.Frames.{lines_written}
+use Rattle.ac_session.specs.Frames.{end_line, lines_written}
 use Rattle.ac_session.specs.Held.{Held}
 use Rattle.ac_session.specs.Lines.{Given}
 use Rattle.ac_session.specs.Questions.LineFaults.{fault_line}
 use Rattle.ac_session.specs.Standing.{Answers, Closes, Gives, IsGiven, TakesTurn, end_told, mark_of, state_behind, status_told}
 use Rattle.ac_session.specs.Tries.{GivenMayStop, MayStopAt, turn_at}
 use Rattle.ac_session.specs.Turns.{Turn, answer_text, end_of, output_of, status_of, text_of, turn_of}
+use Rattle.ac_session.specs.Turns.Named.{Terms}
 use Rattle.ac_session.specs.declared.endings.AnswerFault.{AnswerFault}
 use Rattle.ac_session.specs.declared.endings.Ending.{Ending}
 use Rattle.ac_session.specs.declared.endings.Ending.TheVariants as ending
@@ -34,6 +35,7 @@ pub closes_whole : (may : Type 0) (answer : Option Outcome) (a b : Option (List 
 closes_whole may answer a b ending.Stopped isnt given = absurd (isnt refl)
 closes_whole may answer a b (ending.Given status) isnt given = given
 closes_whole may answer a b (ending.Refused refusal) isnt given = given
+closes_whole may answer a b (ending.Unnamed why) isnt given = given
 closes_whole may answer a b (ending.Faulted f) isnt given = given
 closes_whole may answer a b ending.Unasked isnt given = given
 
@@ -42,6 +44,7 @@ closes_weaker : {P Q : Type 0} (answer : Option Outcome) (a b : Option (List ℕ
 closes_weaker answer a b weaker ending.Stopped closes = (weaker closes.0, closes.1)
 closes_weaker answer a b weaker (ending.Given status) closes = closes
 closes_weaker answer a b weaker (ending.Refused refusal) closes = closes
+closes_weaker answer a b weaker (ending.Unnamed why) closes = closes
 closes_weaker answer a b weaker (ending.Faulted f) closes = closes
 closes_weaker answer a b weaker ending.Unasked closes = closes
 
@@ -65,6 +68,7 @@ turn_whole first now turn result a b before after gives is = record { answer = g
     at ending.Stopped closes = absurd closes.0
     at (ending.Given status) closes = is
     at (ending.Refused refusal) closes = is
+    at (ending.Unnamed why) closes = is
     at (ending.Faulted f) closes = is
     at ending.Unasked closes = is
 
@@ -77,6 +81,7 @@ same_behind : {S : Type 0} (state : S) (answer : Option Outcome) (end : Ending) 
 same_behind state answer ending.Stopped = refl
 same_behind state answer (ending.Given status) = refl
 same_behind state answer (ending.Refused refusal) = refl
+same_behind state answer (ending.Unnamed why) = refl
 same_behind state answer (ending.Faulted f) = refl
 same_behind state answer ending.Unasked = refl
 
@@ -112,14 +117,19 @@ pub stopped_told : (ends : Ending) → ends ≡ ending.Stopped → codes "= 8 se
 unfolding digits tries_line
 stopped_told ends is = rw is refl
 
--- the line of a refusal, of a line that asks nothing
-pub refused_told : (ends : Ending) (refusal : AskRefusal) → ends ≡ ending.Refused refusal → mark_of (status_of_asked refusal) ++ line_of_asked refusal ≡ end_told ends
+-- the line of a refusal, of names that stand for nothing, of a line that asks nothing
+behind_mark : (status : ℕ) (line : List ℕ) → IsLine line → mark_of status ++ line ≡ end_line status line
 unfolding mark_of
-refused_told ends refusal is =
-    rw is
-    (append_assoc (codes "= ") (decimal (status_of_asked refusal) ++ 32 ∷ []) (line_of_asked refusal)
-    ∙ ap (λ l. codes "= " ++ l) (append_assoc (decimal (status_of_asked refusal)) (32 ∷ []) (line_of_asked refusal))
-    ∙ ap (λ l. codes "= " ++ (decimal (status_of_asked refusal) ++ l)) (sym (line_told (line_of_asked refusal) (refusal_one refusal))))
+behind_mark status line one =
+    append_assoc (codes "= ") (decimal status ++ 32 ∷ []) line
+    ∙ ap (λ l. codes "= " ++ l) (append_assoc (decimal status) (32 ∷ []) line)
+    ∙ ap (λ l. codes "= " ++ (decimal status ++ l)) (sym (line_told line one))
+
+pub refused_told : (ends : Ending) (refusal : AskRefusal) → ends ≡ ending.Refused refusal → mark_of (status_of_asked refusal) ++ line_of_asked refusal ≡ end_told ends
+refused_told ends refusal is = rw is (behind_mark (status_of_asked refusal) (line_of_asked refusal) (refusal_one refusal))
+
+pub unnamed_told : (ends : Ending) (why : NamesRefusal) → ends ≡ ending.Unnamed why → mark_of (status_of_names why) ++ names_line why ≡ end_told ends
+unnamed_told ends why is = rw is (behind_mark (status_of_names why) (names_line why) (names_one why))
 
 pub faulted_told : (ends : Ending) (f : LineFault) → ends ≡ ending.Faulted f → codes "= 2 " ++ (fault_line f ++ []) ≡ end_told ends
 unfolding digits
@@ -194,34 +204,35 @@ part_taken None f text h = ([], (text, refl), tt)
 part_taken (Some u) None text h = absurd h
 part_taken (Some u) (Some v) text h = (h.0, (h.1, h.2), h.3)
 
-module _ (tries : Option ℕ) (version : Version) (first : Held) (given : Given) (now : Held) (a g e f w : Option (List ℕ)) (kept : Keeps a g) (is : e ≡ begun g) where
+module _ (tries : Option ℕ) (terms : Terms) (first : Held) (given : Given) (now : Held) (a g e f w : Option (List ℕ)) (kept : Keeps a g) (is : e ≡ begun g) where
   abbrev turn : Turn Held
-  turn = turn_of version first given
+  turn = turn_of terms first given
 
   -- it was given as its turn says, or up to where its search stopped
   record IsAt (end : Ending) : Type 0 where
     stop : Option (List ℕ)
-    may : MayStopAt tries version first given stop
-    output : IsGiven (turn_at version first stop given).answer e f end
-    state : now ≡ (turn_at version first stop given).state
+    may : MayStopAt tries terms first given stop
+    output : IsGiven (turn_at terms first stop given).answer e f end
+    state : now ≡ (turn_at terms first stop given).state
 
-  is_at : (end : Ending) → Closes (GivenMayStop tries version first given) turn.answer e f end → now ≡ state_behind first turn end → IsAt end
+  is_at : (end : Ending) → Closes (GivenMayStop tries terms first given) turn.answer e f end → now ≡ state_behind first turn end → IsAt end
   is_at ending.Stopped closes on =
       let taken = part_taken e f (output_of turn.answer) closes.1 in
       record { stop = Some taken.0; may = (closes.0, taken.1.0, taken.1.1); output = record { output = taken.2; ends = refl; status = refl }; state = on }
   is_at (ending.Given status) closes on = record { stop = None; may = tt; output = closes; state = on }
   is_at (ending.Refused refusal) closes on = record { stop = None; may = tt; output = closes; state = on }
+  is_at (ending.Unnamed why) closes on = record { stop = None; may = tt; output = closes; state = on }
   is_at (ending.Faulted f) closes on = record { stop = None; may = tt; output = closes; state = on }
   is_at ending.Unasked closes on = record { stop = None; may = tt; output = closes; state = on }
 
   pub answers_given : {T : Type 0} (result : Result T AnswerFault) (end : Ending) (before after : ℕ)
-      → TakesTurn (GivenMayStop tries version first given) first turn (Ok end) now e f before after
+      → TakesTurn (GivenMayStop tries terms first given) first turn (Ok end) now e f before after
       → OnOk result ((old : Option (List ℕ)) (text : List ℕ) → Appends (begun old) f text → Appends old w (lines_written text ++ end_told end))
       → ((old : Option (List ℕ)) (text : List ℕ) → Appends (begun old) f text → IsFirstPart (append_known old (lines_written text ++ end_told end)) w)
-      → Answers tries version first given result now a w
+      → Answers tries terms first given result now a w
   answers_given result end before after takes whole part =
       let at = is_at end takes.answer.ok takes.state in
-      let answer = (turn_at version first at.stop given).answer in
+      let answer = (turn_at terms first at.stop given).answer in
       record {
         stop = at.stop;
         may = at.may;
@@ -233,12 +244,12 @@ module _ (tries : Option ℕ) (version : Version) (first : Held) (given : Given)
   -- the output wasn't written whole
   pub answers_begun : {T : Type 0} (fault : AnswerFault) (h : Option (List ℕ)) → TakesPart e f (output_of turn.answer)
       → ((old : Option (List ℕ)) (text : List ℕ) → TakesPart (begun old) f text → IsFirstPart (append_known old (lines_written text)) h) → IsFirstPart h w
-      → Answers {T = T} tries version first given (Err fault) now a w
+      → Answers {T = T} tries terms first given (Err fault) now a w
   answers_begun fault h part hands more =
       record { stop = None; may = tt; ok = tt; state = tt; part = handed_begun turn.answer a g e f w kept is h part hands more }
 
 -- nothing was written
-pub answers_none : {T : Type 0} (tries : Option ℕ) (version : Version) (first : Held) (given : Given) (fault : AnswerFault) (now : Held) (a : Option (List ℕ))
-    → Answers {T = T} tries version first given (Err fault) now a a
-answers_none tries version first given fault now a =
-    record { stop = None; may = tt; ok = tt; state = tt; part = first_none a (text_of (turn_of version first given)) }
+pub answers_none : {T : Type 0} (tries : Option ℕ) (terms : Terms) (first : Held) (given : Given) (fault : AnswerFault) (now : Held) (a : Option (List ℕ))
+    → Answers {T = T} tries terms first given (Err fault) now a a
+answers_none tries terms first given fault now a =
+    record { stop = None; may = tt; ok = tt; state = tt; part = first_none a (text_of (turn_of terms first given)) }

@@ -11,6 +11,7 @@ use Rattle.ac_session.specs.Held.{Held, unnamed}
 use Rattle.ac_session.specs.Lines.{Given, behind_line, first_line, is_newline, newline}
 use Rattle.ac_session.specs.Questions.{Asked, Text, job, fill, place, claim, release, release_name, move, mark, back, usages, left_at, help, nothing, unknown, wrong_number, is_blank, words_of}
 use Rattle.ac_session.specs.Turns.{answers, back_turn, claim_line, claim_turn, is_done, lines_in, mark_turn, named_release_turn, release_said, release_turn, status_of, turn_asked, turn_of}
+use Rattle.ac_session.specs.Turns.Named.{Terms}
 use Rattle.ac_tables.specs.Tables.{Tables, tables_fault, world_stated}
 use Rattle.ac_tables.specs.Tables.Rows.{records_of}
 use Rattle.ac_tables.specs.UsageRows.{usages_fit, usages_text}
@@ -49,7 +50,7 @@ OnlyAsks wrong_number = ⊤
 
 -- What only asks leaves all as it was, the cloud, the names and the marks.
 abbrev pub AskingLeavesAll : Type 0
-AskingLeavesAll = (version : Version) (held : Held) (asked : Asked) → OnlyAsks asked → (turn_asked version held asked).state ≡ held
+AskingLeavesAll = (terms : Terms) (held : Held) (asked : Asked) → OnlyAsks asked → (turn_asked terms held asked).state ≡ held
 
 -- Each candidate behind a claim was one before it, whatever was claimed.
 abbrev pub ClaimTurnsNarrow : Type 0
@@ -68,9 +69,9 @@ ReleasedOnce = (version : Version) (name : Text) (held : Held) → is_done (stat
     → named_release_turn version name (named_release_turn version name held).state ≡ answers (named_release_turn version name held).state (release_said false)
 
 -- what is held behind some lines
-abbrev pub held_behind : Version → Held → List Given → Held
-held_behind version held [] = held
-held_behind version held (given ∷ others) = held_behind version (turn_of version held given).state others
+abbrev pub held_behind : Terms → Held → List Given → Held
+held_behind terms held [] = held
+held_behind terms held (given ∷ others) = held_behind terms (turn_of terms held given).state others
 
 -- what is asked neither marks nor goes back
 abbrev pub LeavesMarks : Asked → Type 0
@@ -80,18 +81,18 @@ LeavesMarks asked = ⊤
 
 -- Then the marks stay.
 abbrev pub MarksStay : Type 0
-MarksStay = (version : Version) (held : Held) (asked : Asked) → LeavesMarks asked → (turn_asked version held asked).state.marks ≡ held.marks
+MarksStay = (terms : Terms) (held : Held) (asked : Asked) → LeavesMarks asked → (turn_asked terms held asked).state.marks ≡ held.marks
 
 -- Whatever is asked behind a mark: where the marks are as they were behind it, `back` gives back all that was held before it.
 abbrev pub BackToMark : Type 0
-BackToMark = (version : Version) (tables : Tables) (before between : List Given) → tables_fault tables ≡ None
-    → (let held = held_behind version (unnamed (world_stated tables)) before in
-    let now = held_behind version (mark_turn held).state between in
+BackToMark = (terms : Terms) (tables : Tables) (before between : List Given) → tables_fault tables ≡ None
+    → (let held = held_behind terms (unnamed (world_stated tables)) before in
+    let now = held_behind terms (mark_turn held).state between in
     now.marks ≡ (mark_turn held).state.marks → (back_turn now).state ≡ held)
 
 -- the providers behind some lines
-abbrev pub providers_behind : Version → Held → List Given → List Provider
-providers_behind version held lines = (held_behind version held lines).world.providers
+abbrev pub providers_behind : Terms → Held → List Given → List Provider
+providers_behind terms held lines = (held_behind terms held lines).world.providers
 
 -- the tables, with the table of usages that is written of these providers
 abbrev pub with_usages : Tables → List Provider → Tables
@@ -104,6 +105,6 @@ pub record GoesOn (tables : Tables) (all : List Provider) : Type 0 where
 
 -- The end of a session is the start of the next: so it is of the table of usages at its end, where all that is used may stand in a table.
 abbrev pub SessionsGoOn : Type 0
-SessionsGoOn = (version : Version) (tables : Tables) (questions : Text) → tables_fault tables ≡ None
-    → usages_fit (providers_behind version (unnamed (world_stated tables)) (lines_in questions)) ≡ true
-    → GoesOn tables (providers_behind version (unnamed (world_stated tables)) (lines_in questions))
+SessionsGoOn = (terms : Terms) (tables : Tables) (questions : Text) → tables_fault tables ≡ None
+    → usages_fit (providers_behind terms (unnamed (world_stated tables)) (lines_in questions)) ≡ true
+    → GoesOn tables (providers_behind terms (unnamed (world_stated tables)) (lines_in questions))

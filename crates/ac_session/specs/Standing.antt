@@ -3,10 +3,9 @@ use Rattle.std.specs.Prelude.{◌≡◌, ◌⊎◌, ℕ, ◌+◌, ◌≤◌, Lis
 use Rattle.std.specs.Io.KnownBytes.{Appends, append_known}
 use Rattle.ac_base.specs.Devices.{Rises, TakesPart}
 use Rattle.ac_base.specs.Gathered.{IsFirstPart}
-use Rattle.ac_query.specs.declared.version.Version.{Version}
 use Rattle.ac_run.specs.Answer.{Outcome, refused}
-use Rattle.ac_run.specs.Lines.{memory_line, output_line, tries_line}
-use Rattle.ac_run.specs.Refusals.{line_of_asked, status_of_asked}
+use Rattle.ac_run.specs.Lines.{memory_line, names_line, output_line, tries_line}
+use Rattle.ac_run.specs.Refusals.{line_of_asked, status_of_asked, status_of_names}
 use Rattle.ac_run.specs.declared.refusal.AskRefusal.{AskRefusal}
 use Rattle.ac_run.specs.declared.refusal.AskRefusal.TheVariants as ask
 use Rattle.ac_session.specs.Frames.{end_line}
@@ -16,6 +15,7 @@ use Rattle.ac_session.specs.Sessions.{questions_line}
 use Rattle.ac_session.specs.Lines.{Given}
 use Rattle.ac_session.specs.Tries.{AreStops, MayStopAt, text_with, turn_at}
 use Rattle.ac_session.specs.Turns.{Turn, end_of, is_done, lines_in, output_of, status_of, text_of}
+use Rattle.ac_session.specs.Turns.Named.{Terms}
 use Rattle.ac_session.specs.declared.endings.AnswerFault.{AnswerFault}
 use Rattle.ac_session.specs.declared.endings.AnswerFault.TheVariants as fault
 use Rattle.ac_session.specs.declared.endings.Ending.{Ending}
@@ -25,16 +25,16 @@ use Rattle.ac_session.specs.declared.session.Stop.TheVariants as stop
 
 -- After so many turns the first questions of a text are answered, and the others are left: the bytes that were taken and what may be written for what is
 -- left may be written for the whole text.
-pub record Stands (tries : Option ℕ) (version : Version) (first : Held) (questions : List ℕ) (before : Option (List ℕ)) (held : Held)
+pub record Stands (tries : Option ℕ) (terms : Terms) (first : Held) (questions : List ℕ) (before : Option (List ℕ)) (held : Held)
     (remains after : Option (List ℕ)) (turns : ℕ) : Type 0 where
   pub rest : List ℕ
   pub left : remains ≡ Some rest
   pub stops : List (Option (List ℕ))
   pub written : List ℕ
   pub taken : Appends before after written
-  pub may : (later : List (Option (List ℕ))) → AreStops tries version held later (lines_in rest) → AreStops tries version first (stops ++ later) (lines_in questions)
-  pub text : (later : List (Option (List ℕ))) → AreStops tries version held later (lines_in rest)
-      → text_with version first (stops ++ later) (lines_in questions) ≡ written ++ text_with version held later (lines_in rest)
+  pub may : (later : List (Option (List ℕ))) → AreStops tries terms held later (lines_in rest) → AreStops tries terms first (stops ++ later) (lines_in questions)
+  pub text : (later : List (Option (List ℕ))) → AreStops tries terms held later (lines_in rest)
+      → text_with terms first (stops ++ later) (lines_in questions) ≡ written ++ text_with terms held later (lines_in rest)
   pub fewer : length rest + turns ≤ length questions
 
 -- what stands before the line of a refusal
@@ -45,6 +45,7 @@ mark_of status = codes "= " ++ (decimal status ++ 32 ∷ [])
 abbrev pub end_told : Ending → List ℕ
 end_told (ending.Given status) = end_line status []
 end_told (ending.Refused refusal) = end_line (status_of_asked refusal) (line_of_asked refusal)
+end_told (ending.Unnamed why) = end_line (status_of_names why) (names_line why)
 end_told (ending.Faulted f) = end_line fault_status (fault_line f)
 end_told ending.Unasked = []
 end_told ending.Stopped = end_line 8 tries_line
@@ -53,6 +54,7 @@ end_told ending.Stopped = end_line 8 tries_line
 abbrev pub status_told : Ending → Option ℕ
 status_told (ending.Given status) = Some status
 status_told (ending.Refused refusal) = Some (status_of_asked refusal)
+status_told (ending.Unnamed why) = Some (status_of_names why)
 status_told (ending.Faulted f) = Some fault_status
 status_told ending.Unasked = None
 status_told ending.Stopped = Some 8
@@ -73,6 +75,7 @@ abbrev pub Closes : Type 0 → Option Outcome → Option (List ℕ) → Option (
 Closes may answer old new ending.Stopped = may × TakesPart old new (output_of answer)
 Closes may answer old new (ending.Given status) = IsGiven answer old new (ending.Given status)
 Closes may answer old new (ending.Refused refusal) = IsGiven answer old new (ending.Refused refusal)
+Closes may answer old new (ending.Unnamed why) = IsGiven answer old new (ending.Unnamed why)
 Closes may answer old new (ending.Faulted f) = IsGiven answer old new (ending.Faulted f)
 Closes may answer old new ending.Unasked = IsGiven answer old new ending.Unasked
 
@@ -88,6 +91,7 @@ abbrev pub state_behind : {S : Type 0} → S → Turn S → Ending → S
 state_behind first turn ending.Stopped = first
 state_behind first turn (ending.Given status) = turn.state
 state_behind first turn (ending.Refused refusal) = turn.state
+state_behind first turn (ending.Unnamed why) = turn.state
 state_behind first turn (ending.Faulted f) = turn.state
 state_behind first turn ending.Unasked = turn.state
 
@@ -102,12 +106,12 @@ pub record IsNamed (name : List ℕ) (made : Option Claim) (answered result : Re
   pub err : IfErr result (λ e. (answered ≡ Err e) ⊎ ((e ≡ fault.NoMemory) × (end : Ending) × (answered ≡ Ok end)))
 
 -- What bytes give is answered, perhaps up to where its search stopped; after an error a first part of the answer was written.
-pub record Answers {T : Type 0} (tries : Option ℕ) (version : Version) (first : Held) (given : Given) (result : Result T AnswerFault) (now : Held) (old new : Option (List ℕ)) : Type 0 where
+pub record Answers {T : Type 0} (tries : Option ℕ) (terms : Terms) (first : Held) (given : Given) (result : Result T AnswerFault) (now : Held) (old new : Option (List ℕ)) : Type 0 where
   pub stop : Option (List ℕ)
-  pub may : MayStopAt tries version first given stop
-  pub ok : OnOk result (Appends old new (text_of (turn_at version first stop given)))
-  pub state : OnOk result (now ≡ (turn_at version first stop given).state)
-  pub part : IsFirstPart (append_known old (text_of (turn_at version first stop given))) new
+  pub may : MayStopAt tries terms first given stop
+  pub ok : OnOk result (Appends old new (text_of (turn_at terms first stop given)))
+  pub state : OnOk result (now ≡ (turn_at terms first stop given).state)
+  pub part : IsFirstPart (append_known old (text_of (turn_at terms first stop given))) new
 
 -- an outcome is this refusal; of want of memory nothing is said
 abbrev pub IsRefusal : AskRefusal → Outcome → Type 0

@@ -1,5 +1,6 @@
 -- Turns of a session: what a question does, and what is written for lines one after another.
-use Rattle.std.specs.Prelude.{ℕ, ◌==◌, Bool, true, false, nat_le, nat_lt, List, [], ◌∷◌, ◌++◌, map, length, codes, Option, Some, None, if◌then◌else◌}
+pub mod Named
+use Rattle.std.specs.Prelude.{ℕ, ◌==◌, Bool, true, false, nat_le, nat_lt, List, [], ◌∷◌, ◌++◌, map, length, codes, Option, Some, None, Result, Ok, Err, if◌then◌else◌}
 use Rattle.std.specs.List.{slice_split}
 use Rattle.std.specs.Option.{option_and_then, unwrap_or}
 use Rattle.ac_cloud.specs.World.{Provider, World}
@@ -9,7 +10,7 @@ use Rattle.ac_query.specs.Pairs.{pairs_of}
 use Rattle.ac_query.specs.Pairs.Values.{ids_value}
 use Rattle.ac_fill.specs.Filled.{after, filled}
 use Rattle.ac_query.specs.declared.version.Version.{Version}
-use Rattle.ac_report.specs.Texts.{line as token_line_of}
+use Rattle.ac_report.specs.Called.{line_by}
 use Rattle.ac_rules.specs.Claims.{claimed, is_in_use, move_verdict, moved, released}
 use Rattle.ac_rules.specs.Judge.{judge}
 use Rattle.ac_rules.specs.Lists.{head_of}
@@ -20,9 +21,10 @@ use Rattle.ac_rules.specs.declared.verdict.Verdict.{Verdict}
 use Rattle.ac_rules.specs.declared.verdict.Verdict.TheVariants as verdict
 use Rattle.ac_query.specs.Tokens.{ids_text, token_fault}
 use Rattle.ac_search.specs.At.{rest_at}
-use Rattle.ac_run.specs.Answer.{Outcome, Says, answer_in, at_host, fills, past_query, refused, root_named, told, written}
-use Rattle.ac_run.specs.Lines.{token_line}
-use Rattle.ac_run.specs.Tasks.{Task}
+use Rattle.ac_run.specs.Answer.{Outcome, Says, answer_in, at_host, fills_by, past_query, refused, root_named, told, written}
+use Rattle.ac_run.specs.Lines.{names_line, token_line}
+use Rattle.ac_run.specs.Refusals.{status_of_names}
+use Rattle.ac_run.specs.declared.refusal.NamesRefusal.{NamesRefusal}
 use Rattle.ac_run.specs.Outputs.{verdict_text}
 use Rattle.ac_session.specs.Frames.{end_line, lines_written}
 use Rattle.ac_session.specs.Questions.LineFaults.{fault_line, fault_status}
@@ -32,6 +34,7 @@ use Rattle.ac_session.specs.LeftRows.{left_answer}
 use Rattle.ac_session.specs.Held.{Claim, Held, Mark, marked, standing}
 use Rattle.ac_session.specs.Marks.{restored}
 use Rattle.ac_session.specs.Questions.{Asked, job, fill, place, claim, release, release_name, move, mark, back, usages, left_at, help, nothing, unknown, wrong_number, asked_of}
+use Rattle.ac_session.specs.Turns.Named.{Terms, are_named, asked_told, named_task}
 use Rattle.ac_session.specs.UsageRows.{usage_rows}
 use Rattle.ac_session.specs.declared.line_faults.LineFault.{LineFault}
 use Rattle.ac_session.specs.declared.line_faults.LineFault.TheVariants as fault
@@ -159,9 +162,9 @@ abbrev pub after_fill : List Provider → Query → List Provider
 after_fill all asked = after all asked (filled asked.limit all asked)
 
 -- A query is placed again and again, and each placement is claimed, be they fewer than the limit.
-unfoldable pub fill_turn : Version → List ℕ → World → Turn World
-fill_turn version query world =
-    settles 1 world (past_query (fills world.providers false) None version query) (after_fill world.providers (asked_by version (pairs_of query)))
+unfoldable pub fill_turn : Terms → List ℕ → World → Turn World
+fill_turn terms query world =
+    settles 1 world (past_query (fills_by (are_named terms) world.providers false) None terms.version query) (after_fill world.providers (asked_by terms.version (pairs_of query)))
 
 -- ---- one placement
 
@@ -169,23 +172,23 @@ fill_turn version query world =
 abbrev pub first_at : List Provider → Query → Option ℕ → Option (List ℕ)
 first_at all asked root = head_of (rest_at all asked root None)
 
--- what is said of it: its token, where there is one
-abbrev pub placed_said : List Provider → Option (List ℕ) → Outcome
-placed_said all None = written [] 1
-placed_said all (Some list) = written (token_line_of all list) 0
+-- what is said of it: its line, by names or by UUIDs, where there is one
+abbrev pub placed_said : Bool → List Provider → Option (List ℕ) → Outcome
+placed_said named all None = written [] 1
+placed_said named all (Some list) = written (line_by named all list) 0
 
-abbrev pub place_line : List Provider → Option ℕ → Says
-place_line all root asked ids = placed_said all (first_at all asked root)
+abbrev pub place_line : Bool → List Provider → Option ℕ → Says
+place_line named all root asked ids = placed_said named all (first_at all asked root)
 
 -- the first candidate for a query, at the root of the provider that is named, where one is
 abbrev pub list_placed : Version → List ℕ → Option (List ℕ) → World → List ℕ
 list_placed version query host world = unwrap_or (first_at world.providers (asked_by version (pairs_of query)) (root_named world.providers host)) []
 
 -- The first candidate is claimed, at the root of the provider that is named, where one is.
-unfoldable pub place_turn : Version → List ℕ → Option (List ℕ) → World → Turn World
-place_turn version query host world =
-    settles 0 world (past_query (at_host world.providers host (place_line world.providers)) None version query)
-    (claimed world.providers (assigned (asked_by version (pairs_of query)) (list_placed version query host world)))
+unfoldable pub place_turn : Terms → List ℕ → Option (List ℕ) → World → Turn World
+place_turn terms query host world =
+    settles 0 world (past_query (at_host world.providers host (place_line (are_named terms) world.providers)) None terms.version query)
+    (claimed world.providers (assigned (asked_by terms.version (pairs_of query)) (list_placed terms.version query host world)))
 
 -- ---- claims by name
 
@@ -221,13 +224,13 @@ abbrev pub token_placed : Version → List ℕ → Option (List ℕ) → World �
 token_placed version query host world = ids_text (ids_of world.providers (list_placed version query host world))
 
 -- A placement with a name: the same.
-abbrev pub placed_as : Version → List ℕ → Option (List ℕ) → List ℕ → Held → Option Claim → Turn Held
-placed_as version query host name held (Some made) = answers held (written (codes "in use\n") 1)
-placed_as version query host name held None =
-    with_name name (Some (record { query = query; token = token_placed version query host held.world })) held (place_turn version query host held.world)
+abbrev pub placed_as : Terms → List ℕ → Option (List ℕ) → List ℕ → Held → Option Claim → Turn Held
+placed_as terms query host name held (Some made) = answers held (written (codes "in use\n") 1)
+placed_as terms query host name held None =
+    with_name name (Some (record { query = query; token = token_placed terms.version query host held.world })) held (place_turn terms query host held.world)
 
-unfoldable pub named_place_turn : Version → List ℕ → Option (List ℕ) → List ℕ → Held → Turn Held
-named_place_turn version query host name held = placed_as version query host name held (held.named name)
+unfoldable pub named_place_turn : Terms → List ℕ → Option (List ℕ) → List ℕ → Held → Turn Held
+named_place_turn terms query host name held = placed_as terms query host name held (held.named name)
 
 -- What a name stands for is given back, and then it stands for nothing.
 abbrev pub released_as : Version → List ℕ → Held → Option Claim → Turn Held
@@ -263,35 +266,40 @@ back_turn held = back_to held held.marks
 
 -- ---- turns
 
--- a task as a session reads it: by UUIDs
-abbrev pub unnamed_task : Task → Task
-unnamed_task task = record task { names = None }
+-- the turn of what is asked by UUIDs
+abbrev pub turn_by_ids : Terms → Held → Asked → Turn Held
+turn_by_ids terms held (job task) = answers held (answer_in (named_task terms task) held.world)
+turn_by_ids terms held (fill query) = within held (fill_turn terms query held.world)
+turn_by_ids terms held (place query None host) = within held (place_turn terms query host held.world)
+turn_by_ids terms held (place query (Some name) host) = named_place_turn terms query host name held
+turn_by_ids terms held (claim query token None) = within held (claim_turn terms.version query token held.world)
+turn_by_ids terms held (claim query token (Some name)) = named_claim_turn terms.version query token name held
+turn_by_ids terms held (release query token) = within held (release_turn terms.version query token held.world)
+turn_by_ids terms held (release_name name) = named_release_turn terms.version name held
+turn_by_ids terms held (move name token) = named_move_turn terms.version name token held
+turn_by_ids terms held mark = mark_turn held
+turn_by_ids terms held back = back_turn held
+turn_by_ids terms held usages = answers held (usage_rows held.world.providers)
+turn_by_ids terms held (left_at host) = answers held (left_answer held.world.providers host)
+turn_by_ids terms held help = answers held (written help_text 0)
+turn_by_ids terms held nothing = passes held
+turn_by_ids terms held unknown = answers held (faulted fault.UnknownCommand)
+turn_by_ids terms held wrong_number = answers held (faulted fault.WrongNumber)
+
+-- the same, unless a name in it stands for nothing
+abbrev pub turn_told : Terms → Held → Result Asked NamesRefusal → Turn Held
+turn_told terms held (Ok asked) = turn_by_ids terms held asked
+turn_told terms held (Err why) = answers held (refused (names_line why) (status_of_names why))
 
 -- the turn of what is asked
-abbrev pub turn_asked : Version → Held → Asked → Turn Held
-turn_asked version held (job task) = answers held (answer_in (unnamed_task task) held.world)
-turn_asked version held (fill query) = within held (fill_turn version query held.world)
-turn_asked version held (place query None host) = within held (place_turn version query host held.world)
-turn_asked version held (place query (Some name) host) = named_place_turn version query host name held
-turn_asked version held (claim query token None) = within held (claim_turn version query token held.world)
-turn_asked version held (claim query token (Some name)) = named_claim_turn version query token name held
-turn_asked version held (release query token) = within held (release_turn version query token held.world)
-turn_asked version held (release_name name) = named_release_turn version name held
-turn_asked version held (move name token) = named_move_turn version name token held
-turn_asked version held mark = mark_turn held
-turn_asked version held back = back_turn held
-turn_asked version held usages = answers held (usage_rows held.world.providers)
-turn_asked version held (left_at host) = answers held (left_answer held.world.providers host)
-turn_asked version held help = answers held (written help_text 0)
-turn_asked version held nothing = passes held
-turn_asked version held unknown = answers held (faulted fault.UnknownCommand)
-turn_asked version held wrong_number = answers held (faulted fault.WrongNumber)
+abbrev pub turn_asked : Terms → Held → Asked → Turn Held
+turn_asked terms held asked = turn_told terms held (asked_told terms held.world asked)
 
 -- the turn of what bytes give
-unfoldable pub turn_of : Version → Held → Given → Turn Held
-turn_of version held (line text) = turn_asked version held (asked_of version text)
-turn_of version held too_long = answers held (faulted fault.TooLong)
-turn_of version held end = passes held
+unfoldable pub turn_of : Terms → Held → Given → Turn Held
+turn_of terms held (line text) = turn_asked terms held (asked_of terms.version text)
+turn_of terms held too_long = answers held (faulted fault.TooLong)
+turn_of terms held end = passes held
 
 -- ---- the lines of a text
 
@@ -304,7 +312,7 @@ unfoldable pub lines_in : List ℕ → List Given
 lines_in bytes = map given_line (slice_split is_newline bytes)
 
 -- what is written for lines, one after another
-abbrev pub session_text : Version → Held → List Given → List ℕ
-session_text version held [] = []
-session_text version held (given ∷ others) =
-    text_of (turn_of version held given) ++ session_text version (turn_of version held given).state others
+abbrev pub session_text : Terms → Held → List Given → List ℕ
+session_text terms held [] = []
+session_text terms held (given ∷ others) =
+    text_of (turn_of terms held given) ++ session_text terms (turn_of terms held given).state others

@@ -1,25 +1,33 @@
 //! How answers end, and answers of which no more is to be said than that.
-ghost use Rattle.std.specs.Prelude.{◌≡◌, ◌≤◌, ◌++◌, ℕ, List, Option, Err, IfOk, OnErr, OnOk, Some, false};
+ghost use Rattle.std.specs.Prelude.{◌≡◌, ◌≤◌, ◌++◌, ℕ, List, Option, Err, IfOk, OnErr, OnOk, Result, Some, false};
 ghost use Rattle.std.specs.Io.KnownBytes.{Appends, append_known};
 ghost use Rattle.ac_base.specs.Writing.{Pushes};
 ghost use Rattle.ac_base.specs.Devices.{Rises, TakesPart};
 ghost use Rattle.ac_base.specs.Gathered.{IsFirstPart};
 ghost use Rattle.ac_cloud.specs.World.{Provider, World};
 ghost use Rattle.ac_report.specs.declared.fault.PageFault.TheVariants as PageFault;
-ghost use Rattle.ac_run.specs.Answer.{Outcome, written};
-ghost use Rattle.ac_run.specs.Refusals.{line_of_asked, status_of_asked};
+ghost use Rattle.ac_run.specs.Answer.{Outcome, refused, written};
+ghost use Rattle.ac_run.specs.Lines.{names_line};
+ghost use Rattle.ac_run.specs.Naming.{TellsNames};
+ghost use Rattle.ac_run.specs.Refusals.{line_of_asked, status_of_asked, status_of_names};
+ghost use Rattle.ac_run.specs.declared.refusal.NamesRefusal as names;
 ghost use Rattle.ac_run.specs.Run.{Delivers};
 ghost use Rattle.ac_session.specs.Escapes.{begun};
 ghost use Rattle.ac_session.specs.Frames.{lines_written};
 ghost use Rattle.ac_session.specs.Standing.{Gives, IsRefusal, TakesTurn, end_told, mark_of, status_told};
-ghost use Rattle.ac_session.specs.Turns.{is_done, output_of, settles};
+ghost use Rattle.ac_session.specs.Held.{Held};
+ghost use Rattle.ac_session.specs.Questions.{Asked};
+ghost use Rattle.ac_session.specs.Turns.{is_done, output_of, settles, turn_told};
+ghost use Rattle.ac_session.specs.Turns.Named.{Terms};
 ghost use Rattle.ac_session.specs.declared.endings.Ending.TheVariants as Ending;
 
 use crate::escaping::Escaping;
 use crate::line_faults::LineFault;
 use ac_base::{Digits, NoMemory, Sink, WriteFailed, push_all, push_pieces};
 use ac_report::PageFault;
-use ac_run::{AskRefusal, asked_status, push_asked_line};
+use ac_run::{
+    AskRefusal, NamesRefusal, asked_status, names_status, push_asked_line, push_names_line,
+};
 
 /// How an answer ends.
 #[derive(Debug, Drop)]
@@ -28,6 +36,8 @@ pub(crate) enum Ending {
     Given(u8),
     /// What is asked is refused.
     Refused(AskRefusal),
+    /// A name in it stands for nothing.
+    Unnamed(NamesRefusal),
     /// The line asks nothing.
     Faulted(LineFault),
     /// There is no answer: the line is empty.
@@ -88,6 +98,16 @@ fn push_refused<W: Sink>(out: &mut W, refusal: &AskRefusal) -> Result<(), WriteF
     push_asked_line(out, refusal)
 }
 
+// The same of names that can't be read.
+#[tactic(auto, using(ac_base::proofs::Leaving::behind))]
+fn push_unnamed<W: Sink>(out: &mut W, refusal: NamesRefusal) -> Result<(), WriteFailed>
+    ensures { Pushes W.taken W.failures out.old out.new result
+        (mark_of (status_of_names refusal) ++ names_line refusal) }
+{
+    push_mark(out, names_status(refusal))?;
+    push_names_line(out, refusal)
+}
+
 // The line that ends an answer.
 fn push_ending<W: Sink>(out: &mut W, ending: &Ending) -> Result<(), WriteFailed>
     ensures { Pushes W.taken W.failures out.old out.new result (end_told ending.now) }
@@ -100,6 +120,7 @@ fn push_ending<W: Sink>(out: &mut W, ending: &Ending) -> Result<(), WriteFailed>
             )
         }
         Ending::Refused(refusal) => push_refused(out, refusal),
+        Ending::Unnamed(refusal) => push_unnamed(out, *refusal),
         Ending::Faulted(fault) => push_pieces(out, &[b"= 2 ", fault.line().as_bytes()]),
         Ending::Unasked => Ok(()),
         Ending::Stopped => push_all(out, b"= 8 search: TooManyTries\n"),
@@ -181,5 +202,17 @@ pub(crate) fn refused(refusal: AskRefusal) -> Result<Ending, AnswerFault>
     match refusal {
         AskRefusal::NoMemory => Err(AnswerFault::NoMemory),
         _ => Ok(Ending::Refused(refusal)),
+    }
+}
+
+/// What is told in place of an answer where a name stands for nothing; want of memory ends the session instead.
+pub(crate) fn unnamed(refusal: NamesRefusal) -> Result<Ending, AnswerFault>
+    ensures { (asked : Result Asked names.NamesRefusal) → TellsNames asked refusal
+        → (terms : Terms) (held : Held) (old : Option (List ℕ)) (count : ℕ)
+        → TakesTurn ⊥ held (turn_told terms held asked) result held old old count count }
+{
+    match refusal {
+        NamesRefusal::NoMemory => Err(AnswerFault::NoMemory),
+        _ => Ok(Ending::Unnamed(refusal)),
     }
 }

@@ -4,8 +4,11 @@ ghost use Rattle.std.specs.List.{before_first, list_any};
 ghost use Rattle.ac_run.specs.Tasks.{candidates, command_shown, list, tokens, verify, why};
 ghost use Rattle.ac_session.specs.Questions.{asked_by_name, asked_in, asked_of, asks, asks_about, asks_alone, asks_claim, asks_fill, asks_job, asks_left, asks_move, asks_place, asks_query, asks_release, asks_search, behind_blank, claim_of, is_blank, is_logged, is_passed_over, maybe_name, move, name_of, named_of, one_of, part_of, query_words, release_name, search_of, two_of, words_behind, words_of};
 
+mod texts;
+
 use ac_query::Version;
 use ac_run::{Command, Job, has_path, past_mark};
+pub(crate) use texts::Texts;
 
 /// What a line asks.
 #[derive(Clone, Copy)]

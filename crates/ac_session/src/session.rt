@@ -1,25 +1,30 @@
 //! A session: questions from a feed, each answered before the next is read.
-ghost use Rattle.std.specs.Prelude.{◌≡◌, ◌≢◌, ◌≤◌, ◌<◌, ◌++◌, ◌⊎◌, ℕ, List, ◌∷◌, [], Contains, Err, Ok, OnErr, OnOk, Option, Some, None, length};
+ghost use Rattle.std.specs.Prelude.{◌≡◌, ◌≢◌, ◌≤◌, ◌<◌, ◌++◌, ◌⊎◌, ℕ, List, ◌∷◌, [], Contains, Err, IfErr, IfOk, Ok, OnErr, OnOk, Option, Some, None, length};
+ghost use Rattle.std.specs.Option.{option_and_then};
 ghost use Rattle.std.specs.Io.KnownBytes.{Appends, append_known};
 ghost use Rattle.ac_base.specs.Writing.{TakesLine};
 ghost use Rattle.ac_base.specs.Devices.{Rises};
 ghost use Rattle.ac_base.specs.Gathered.{IsFirstPart};
 ghost use Rattle.ac_cloud.specs.Cloud.CloudWorld.{world_of};
+ghost use Rattle.ac_cloud.specs.World.{World};
 ghost use Rattle.ac_run.specs.Changing.{world_in};
-ghost use Rattle.ac_run.specs.Answer.{written};
+ghost use Rattle.ac_run.specs.Answer.{Outcome, past_tables, written};
 ghost use Rattle.ac_run.specs.Feeds.{Bytes, FeedRose, TellBytes};
 ghost use Rattle.ac_run.specs.Lines.{memory_line, output_line};
-ghost use Rattle.ac_run.specs.Run.{FailsOr, IsAnswered, IsRefused, IsUnread};
+ghost use Rattle.ac_run.specs.Naming.{names_refused};
+ghost use Rattle.ac_run.specs.Refusals.{line_told, status_told};
+ghost use Rattle.ac_run.specs.Run.{Explains, FailsOr, IsAnswered, IsRefused, IsStated, IsUnread};
 ghost use Rattle.ac_run.specs.Tasks.{changes_shown, detail_shown};
 ghost use Rattle.ac_session.specs.Escapes.{begun};
 ghost use Rattle.ac_session.specs.Frames.{lines_written};
 ghost use Rattle.ac_session.specs.Held.{held_of, unnamed};
 ghost use Rattle.ac_session.specs.Lines.{Given, most_passed};
 ghost use Rattle.ac_session.specs.Reading.{feed_in, given_by, left};
-ghost use Rattle.ac_session.specs.Sessions.{AreUnread, session_answer, session_answer_with};
+ghost use Rattle.ac_session.specs.Sessions.{AreUnread, past_called, session_answer, session_answer_with};
 ghost use Rattle.ac_session.specs.Standing.{Answers, Stands, end_told, stop_line, stop_status};
 ghost use Rattle.ac_session.specs.Tries.{AreStops, WithStops};
 ghost use Rattle.ac_session.specs.Turns.{lines_in, session_text};
+ghost use Rattle.ac_session.specs.Turns.Named.{IsDirectory, Knows, table_in, terms_of, terms_with};
 ghost use Rattle.ac_session.specs.declared.endings.AnswerFault.TheVariants as AnswerFault;
 ghost use Rattle.ac_session.specs.declared.session.Step.TheVariants as Step;
 ghost use Rattle.ac_session.specs.declared.session.Stop.TheVariants as Stop;
@@ -28,10 +33,10 @@ ghost use Rattle.ac_tables.specs.declared.fault.Table.{Table};
 use crate::endings::{AnswerFault, Ending, end_answer};
 use crate::escaping::Escaping;
 use crate::lines::{Lines, Next};
-use crate::turns::{Held, answer_next};
-use ac_base::{Feed, Gathering, Sink, push_all};
+use crate::turns::{Directory, Held, Terms, answer_next, look_up};
+use ac_base::{Feed, Gathering, NoMemory, Sink, push_all};
 use ac_query::Version;
-use ac_run::{Inputs, Paths, Refusal, Refused, read_inputs, tell};
+use ac_run::{Inputs, Paths, Refusal, Refused, read_inputs, refuse_names, tell};
 use ac_tables::Cloud;
 use std::alloc::Global;
 
@@ -89,13 +94,13 @@ fn end_gathered<W: Sink + Drop>(
 fn hand_on<W: Sink + Drop>(
     alloc: Global,
     held: &mut Held,
-    version: Version,
-    tries: Option<u64>,
+    terms: &Terms<'_, '_>,
     next: Next<'_>,
     out: W,
 ) -> (Result<(), AnswerFault>, W)
+    requires { Knows terms.now (held_of held.old).world }
     ensures answers { (given : Given) → given_by next.entry ≡ Some given
-        → Answers tries version (held_of held.old) given result.0 (held_of held.new)
+        → Answers terms.now.tries (terms_of terms.now) (held_of held.old) given result.0 (held_of held.new)
         (W.taken out) (W.taken result.1) }
     ensures failed { result.0 ≡ Err AnswerFault.WriteFailed
         → Rises (W.failures out) (W.failures result.1) }
@@ -105,7 +110,7 @@ fn hand_on<W: Sink + Drop>(
         return (Err(AnswerFault::NoMemory), out);
     };
     let mut frame = Escaping::new(Gathering::new(out, room));
-    match answer_next(alloc, held, version, tries, next, &mut frame) {
+    match answer_next(alloc, held, terms, next, &mut frame) {
         Ok(ending) => end_gathered(frame, &ending),
         Err(fault) => (Err(fault), frame.into_inner().into_inner()),
     }
@@ -115,21 +120,22 @@ fn hand_on<W: Sink + Drop>(
 fn answer_line<Q: Feed, W: Sink + Drop>(
     alloc: Global,
     held: &mut Held,
-    version: Version,
-    tries: Option<u64>,
+    terms: &Terms<'_, '_>,
     lines: &mut Lines<Q>,
     out: W,
 ) -> (Step, W)
+    requires { Knows terms.now (held_of held.old).world }
     ensures stands { result.0 ≡ Step.Answered → (q : List ℕ)
         → left Q.remaining lines.old ≡ Some q → length q < most_passed
-        → Stands tries version (held_of held.old) q (W.taken out) (held_of held.new)
-        (left Q.remaining lines.new) (W.taken result.1) 1 }
+        → Stands terms.now.tries (terms_of terms.now) (held_of held.old) q (W.taken out)
+        (held_of held.new) (left Q.remaining lines.new) (W.taken result.1) 1 }
+    ensures known { result.0 ≡ Step.Answered → Knows terms.now (held_of held.new).world }
     ensures over { result.0 ≡ Step.AtEnd → (q : List ℕ) → left Q.remaining lines.old ≡ Some q
         → Appends (W.taken out) (W.taken result.1)
-        (session_text version (held_of held.old) (lines_in q)) }
+        (session_text (terms_of terms.now) (held_of held.old) (lines_in q)) }
     ensures part { (q : List ℕ) → left Q.remaining lines.old ≡ Some q → length q < most_passed
-        → WithStops tries version (held_of held.old) q (λ text.
-        IsFirstPart (append_known (W.taken out) text) (W.taken result.1)) }
+        → WithStops terms.now.tries (terms_of terms.now) (held_of held.old) q
+        (λ text. IsFirstPart (append_known (W.taken out) text) (W.taken result.1)) }
     ensures unread { result.0 ≡ Step.Stopped Stop.Questions
         → Rises (Q.failures (feed_in lines.old)) (Q.failures (feed_in lines.new)) }
     ensures unwritten { result.0 ≡ Step.Stopped Stop.Output
@@ -141,7 +147,7 @@ fn answer_line<Q: Feed, W: Sink + Drop>(
     match next {
         Next::End => (Step::AtEnd, out),
         Next::Failed => (Step::Stopped(Stop::Questions), out),
-        _ => match hand_on(alloc, held, version, tries, next, out) {
+        _ => match hand_on(alloc, held, terms, next, out) {
             (Ok(()), out) => (Step::Answered, out),
             (Err(AnswerFault::WriteFailed), out) => (Step::Stopped(Stop::Output), out),
             (Err(AnswerFault::NoMemory), out) => (Step::Stopped(Stop::NoMemory), out),
@@ -153,17 +159,18 @@ fn answer_line<Q: Feed, W: Sink + Drop>(
 fn answer_lines<Q: Feed, W: Sink + Drop>(
     alloc: Global,
     held: &mut Held,
-    version: Version,
-    tries: Option<u64>,
+    terms: &Terms<'_, '_>,
     lines: &mut Lines<Q>,
     out: W,
 ) -> (Result<(), Stop>, W)
+    requires { Knows terms.now (held_of held.old).world }
     ensures ok { OnOk result.0 ((q : List ℕ) → left Q.remaining lines.old ≡ Some q
-        → length q < most_passed → WithStops tries version (held_of held.old) q
+        → length q < most_passed
+        → WithStops terms.now.tries (terms_of terms.now) (held_of held.old) q
         (Appends (W.taken out) (W.taken result.1))) }
     ensures part { (q : List ℕ) → left Q.remaining lines.old ≡ Some q → length q < most_passed
-        → WithStops tries version (held_of held.old) q (λ text.
-        IsFirstPart (append_known (W.taken out) text) (W.taken result.1)) }
+        → WithStops terms.now.tries (terms_of terms.now) (held_of held.old) q
+        (λ text. IsFirstPart (append_known (W.taken out) text) (W.taken result.1)) }
     ensures unread { result.0 ≡ Err Stop.Questions
         → Rises (Q.failures (feed_in lines.old)) (Q.failures (feed_in lines.new)) }
     ensures unwritten { result.0 ≡ Err Stop.Output
@@ -171,7 +178,7 @@ fn answer_lines<Q: Feed, W: Sink + Drop>(
 {
     let mut out = out;
     'turns: for _ in 0..u64::MAX {
-        let (step, rest) = answer_line(alloc, held, version, tries, lines, out);
+        let (step, rest) = answer_line(alloc, held, terms, lines, out);
         out = rest;
         match step {
             Step::Answered => {}
@@ -180,6 +187,43 @@ fn answer_lines<Q: Feed, W: Sink + Drop>(
         }
     }
     (Ok(()), out)
+}
+
+// Answers all lines over a cloud, by a directory of its names, where there is one.
+fn answer_all<Q: Feed, W: Sink + Drop>(
+    alloc: Global,
+    version: Version,
+    tries: Option<u64>,
+    cloud: Cloud,
+    directory: &Option<Directory<'_>>,
+    lines: &mut Lines<Q>,
+    out: W,
+) -> (Result<(), Stop>, W)
+    requires { IsDirectory (world_of cloud) directory.now }
+    ensures ok { OnOk result.0 ((q : List ℕ) → left Q.remaining lines.old ≡ Some q
+        → length q < most_passed
+        → WithStops tries (terms_with version (table_in directory.now)) (unnamed (world_of cloud)) q
+        (Appends (W.taken out) (W.taken result.1))) }
+    ensures part { (q : List ℕ) → left Q.remaining lines.old ≡ Some q → length q < most_passed
+        → WithStops tries (terms_with version (table_in directory.now)) (unnamed (world_of cloud)) q
+        (λ text. IsFirstPart (append_known (W.taken out) text) (W.taken result.1)) }
+    ensures unread { result.0 ≡ Err Stop.Questions
+        → Rises (Q.failures (feed_in lines.old)) (Q.failures (feed_in lines.new)) }
+    ensures unwritten { result.0 ≡ Err Stop.Output
+        → Rises (W.failures out) (W.failures result.1) }
+{
+    match look_up(alloc, directory) {
+        Ok(names) => {
+            let terms = Terms {
+                version,
+                tries,
+                names: names.as_ref(),
+            };
+            let mut held = Held::new(alloc, cloud);
+            answer_lines(alloc, &mut held, &terms, lines, out)
+        }
+        Err(NoMemory) => (Err(Stop::NoMemory), out),
+    }
 }
 
 // Tells why a session stopped, and answers its status.
@@ -207,20 +251,24 @@ fn hold<Q: Feed, W: Sink + Drop, E: Sink>(
     version: Version,
     tries: Option<u64>,
     cloud: Cloud,
+    directory: &Option<Directory<'_>>,
     lines: &mut Lines<Q>,
     out: W,
     err: &mut E,
 ) -> (u8, W)
+    requires { IsDirectory (world_of cloud) directory.now }
     ensures answered { result.0 ≢ 7
         → (Rises (Q.failures (feed_in lines.old)) (Q.failures (feed_in lines.new)) → ⊥)
         → (Rises (W.failures out) (W.failures result.1) → ⊥)
         → (q : List ℕ) → left Q.remaining lines.old ≡ Some q → length q < most_passed
-        → WithStops tries version (unnamed (world_of cloud)) q (λ text. IsAnswered (written text 0)
-        (W.taken out) (W.taken result.1) (E.taken err.old) (E.taken err.new) result.0) }
+        → WithStops tries (terms_with version (table_in directory.now)) (unnamed (world_of cloud)) q
+        (λ text. IsAnswered (written text 0) (W.taken out) (W.taken result.1) (E.taken err.old)
+        (E.taken err.new) result.0) }
     ensures written { result.0 ≡ 0
         → (q : List ℕ) → left Q.remaining lines.old ≡ Some q → length q < most_passed
-        → WithStops tries version (unnamed (world_of cloud)) q (λ text. IsAnswered (written text 0)
-        (W.taken out) (W.taken result.1) (E.taken err.old) (E.taken err.new) result.0) }
+        → WithStops tries (terms_with version (table_in directory.now)) (unnamed (world_of cloud)) q
+        (λ text. IsAnswered (written text 0) (W.taken out) (W.taken result.1) (E.taken err.old)
+        (E.taken err.new) result.0) }
     ensures unread { result.0 ≡ 3
         → AreUnread (Rises (Q.failures (feed_in lines.old)) (Q.failures (feed_in lines.new)))
         (E.taken err.old) (E.taken err.new) (E.failures err.old) (E.failures err.new) }
@@ -230,19 +278,51 @@ fn hold<Q: Feed, W: Sink + Drop, E: Sink>(
     ensures memory { result.0 ≡ 7 → TakesLine (E.taken err.old) (E.taken err.new)
         (E.failures err.old) (E.failures err.new) memory_line }
     ensures part { (q : List ℕ) → left Q.remaining lines.old ≡ Some q → length q < most_passed
-        → WithStops tries version (unnamed (world_of cloud)) q (λ text.
-        IsFirstPart (append_known (W.taken out) text) (W.taken result.1)) }
+        → WithStops tries (terms_with version (table_in directory.now)) (unnamed (world_of cloud)) q
+        (λ text. IsFirstPart (append_known (W.taken out) text) (W.taken result.1)) }
     ensures status { Contains (0 ∷ 3 ∷ 6 ∷ 7 ∷ []) result.0 }
     ensures err_failures { E.failures err.old ≤ E.failures err.new }
 {
-    let mut held = Held::new(alloc, cloud);
-    match answer_lines(alloc, &mut held, version, tries, lines, out) {
+    match answer_all(alloc, version, tries, cloud, directory, lines, out) {
         (Ok(()), out) => (0, out),
         (Err(stop), out) => (tell_stop(alloc, err, stop), out),
     }
 }
 
-/// Runs a session: reads the tables in their order, and makes the changes, then one line of questions after another, and hands on each answer before the next line is read.
+// The cloud that the tables state, as the changes leave it, and what has names in it, where names stand in place of UUIDs; or why not, with what stands behind
+// that line.
+fn begin<'a, R: Feed>(
+    alloc: Global,
+    detail: Option<&Paths>,
+    changes: Option<&[u8]>,
+    names: Option<&'a [u8]>,
+    inputs: &mut Inputs<R>,
+) -> Result<(Cloud, Option<Directory<'a>>), Refused>
+    ensures stated { IfOk result (λ begun. (b : Bytes) → TellBytes R.remaining inputs.old b
+        → IsStated (changes_shown changes.entry) b (world_of begun.0)) }
+    ensures fine { OnOk result
+        (option_and_then names_refused (changes_shown names.entry) ≡ None) }
+    ensures table { IfOk result (λ begun. table_in begun.1 ≡ changes_shown names.entry) }
+    ensures directory { IfOk result (λ begun. IsDirectory (world_of begun.0) begun.1) }
+    ensures fault { IfErr result (λ told. (say : World → Outcome)
+        → Explains R.remaining R.failures (detail_shown detail.entry)
+        (λ b. past_tables (detail_shown detail.entry) (changes_shown changes.entry) b
+        (λ world. past_called (detail_shown detail.entry) (changes_shown names.entry) (say world)))
+        inputs.old inputs.new (line_told told) (status_told told)) }
+    ensures status { IfErr result (λ told. Contains (3 ∷ 7 ∷ []) (status_told told)) }
+{
+    let cloud = match read_inputs(alloc, detail, changes, inputs) {
+        Ok(cloud) => cloud,
+        Err(refused) => return Err(refused),
+    };
+    match Directory::read(alloc, names, &cloud) {
+        Ok(directory) => Ok((cloud, directory)),
+        Err(refusal) => Err(refuse_names(alloc, detail, refusal)),
+    }
+}
+
+/// Runs a session: reads the tables in their order, makes the changes, and reads the names; then one line of questions after another, and hands on each answer
+/// before the next line is read. Where a table of names of aggregates is given, names stand in place of UUIDs, in questions and in answers.
 /// Where the tables' paths are given, what is to be done is told behind the line of tables or changes that are refused. Answers the status and the output sink.
 ///
 /// Each search that a question makes may make so many tries; without a number, as many as it takes. Where it stops, a first part of the output is written,
@@ -256,6 +336,7 @@ pub fn run_session<R: Feed, Q: Feed, W: Sink + Drop, E: Sink>(
     tries: Option<u64>,
     detail: Option<&Paths>,
     changes: Option<&[u8]>,
+    names: Option<&[u8]>,
     inputs: &mut Inputs<R>,
     lines: &mut Lines<Q>,
     out: W,
@@ -270,11 +351,12 @@ pub fn run_session<R: Feed, Q: Feed, W: Sink + Drop, E: Sink>(
         → (b : Bytes) → TellBytes R.remaining inputs.old b
         → (q : List ℕ) → left Q.remaining lines.old ≡ Some q → length q < most_passed
         → (stops : List (Option (List ℕ)))
-        × AreStops tries version (unnamed (world_in (changes_shown changes.entry) b)) stops
-        (lines_in q)
+        × AreStops tries (terms_with version (changes_shown names.entry))
+        (unnamed (world_in (changes_shown changes.entry) b)) stops (lines_in q)
         × IsAnswered (session_answer_with (detail_shown detail.entry)
-        (changes_shown changes.entry) version b stops q) (W.taken out) (W.taken result.1)
-        (E.taken err.old) (E.taken err.new) result.0 }
+        (changes_shown changes.entry)
+        (terms_with version (changes_shown names.entry)) b stops q) (W.taken out)
+        (W.taken result.1) (E.taken err.old) (E.taken err.new) result.0 }
 
     // The same without a number of tries: no search stops.
     ensures answered { tries ≡ None → result.0 ≢ 7
@@ -285,22 +367,25 @@ pub fn run_session<R: Feed, Q: Feed, W: Sink + Drop, E: Sink>(
         → (b : Bytes) → TellBytes R.remaining inputs.old b
         → (q : List ℕ) → left Q.remaining lines.old ≡ Some q → length q < most_passed
         → IsAnswered (session_answer (detail_shown detail.entry) (changes_shown changes.entry)
-        version b q) (W.taken out) (W.taken result.1) (E.taken err.old) (E.taken err.new) result.0 }
+        (terms_with version (changes_shown names.entry)) b q) (W.taken out) (W.taken result.1)
+        (E.taken err.old) (E.taken err.new) result.0 }
 
     // Whatever the devices do: what each status says.
     ensures written_within { result.0 ≡ 0 → (b : Bytes) → TellBytes R.remaining inputs.old b
         → (q : List ℕ) → left Q.remaining lines.old ≡ Some q → length q < most_passed
         → (stops : List (Option (List ℕ)))
-        × AreStops tries version (unnamed (world_in (changes_shown changes.entry) b)) stops
-        (lines_in q)
+        × AreStops tries (terms_with version (changes_shown names.entry))
+        (unnamed (world_in (changes_shown changes.entry) b)) stops (lines_in q)
         × IsAnswered (session_answer_with (detail_shown detail.entry)
-        (changes_shown changes.entry) version b stops q) (W.taken out) (W.taken result.1)
-        (E.taken err.old) (E.taken err.new) result.0 }
+        (changes_shown changes.entry)
+        (terms_with version (changes_shown names.entry)) b stops q) (W.taken out)
+        (W.taken result.1) (E.taken err.old) (E.taken err.new) result.0 }
     ensures written { tries ≡ None → result.0 ≡ 0
         → (b : Bytes) → TellBytes R.remaining inputs.old b
         → (q : List ℕ) → left Q.remaining lines.old ≡ Some q → length q < most_passed
         → IsAnswered (session_answer (detail_shown detail.entry) (changes_shown changes.entry)
-        version b q) (W.taken out) (W.taken result.1) (E.taken err.old) (E.taken err.new) result.0 }
+        (terms_with version (changes_shown names.entry)) b q) (W.taken out) (W.taken result.1)
+        (E.taken err.old) (E.taken err.new) result.0 }
     ensures unread { result.0 ≡ 3
         → AreUnread (Rises (Q.failures (feed_in lines.old)) (Q.failures (feed_in lines.new)))
         (E.taken err.old) (E.taken err.new) (E.failures err.old) (E.failures err.new)
@@ -310,8 +395,8 @@ pub fn run_session<R: Feed, Q: Feed, W: Sink + Drop, E: Sink>(
         (E.failures err.new))
         ((b : Bytes) → TellBytes R.remaining inputs.old b → (q : List ℕ)
         → IsRefused (session_answer (detail_shown detail.entry) (changes_shown changes.entry)
-        version b q) (E.taken err.old) (E.taken err.new) (E.failures err.old)
-        (E.failures err.new) result.0)
+        (terms_with version (changes_shown names.entry)) b q) (E.taken err.old)
+        (E.taken err.new) (E.failures err.old) (E.failures err.new) result.0)
         failed) }
     ensures output { result.0 ≡ 6 → Rises (W.failures out) (W.failures result.1)
         × TakesLine (E.taken err.old) (E.taken err.new)
@@ -321,21 +406,23 @@ pub fn run_session<R: Feed, Q: Feed, W: Sink + Drop, E: Sink>(
     ensures part_within { (b : Bytes) → TellBytes R.remaining inputs.old b
         → (q : List ℕ) → left Q.remaining lines.old ≡ Some q → length q < most_passed
         → (stops : List (Option (List ℕ)))
-        × AreStops tries version (unnamed (world_in (changes_shown changes.entry) b)) stops
-        (lines_in q)
+        × AreStops tries (terms_with version (changes_shown names.entry))
+        (unnamed (world_in (changes_shown changes.entry) b)) stops (lines_in q)
         × IsFirstPart (append_known (W.taken out)
-        (session_answer_with (detail_shown detail.entry) (changes_shown changes.entry) version b
-        stops q).output) (W.taken result.1) }
+        (session_answer_with (detail_shown detail.entry) (changes_shown changes.entry)
+        (terms_with version (changes_shown names.entry)) b stops q).output) (W.taken result.1) }
     ensures part { tries ≡ None → (b : Bytes) → TellBytes R.remaining inputs.old b
         → (q : List ℕ) → left Q.remaining lines.old ≡ Some q → length q < most_passed
         → IsFirstPart (append_known (W.taken out)
-        (session_answer (detail_shown detail.entry) (changes_shown changes.entry) version b
-        q).output) (W.taken result.1) }
+        (session_answer (detail_shown detail.entry) (changes_shown changes.entry)
+        (terms_with version (changes_shown names.entry)) b q).output) (W.taken result.1) }
     ensures status { Contains (0 ∷ 3 ∷ 6 ∷ 7 ∷ []) result.0 }
     ensures err_failures { E.failures err.old ≤ E.failures err.new }
 {
-    match read_inputs(alloc, detail, changes, inputs) {
-        Ok(cloud) => hold(alloc, version, tries, cloud, lines, out, err),
+    match begin(alloc, detail, changes, names, inputs) {
+        Ok((cloud, directory)) => {
+            hold(alloc, version, tries, cloud, &directory, lines, out, err)
+        }
         Err(refused) => (tell(err, &refused), out),
     }
 }

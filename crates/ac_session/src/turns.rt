@@ -10,7 +10,7 @@ ghost use Rattle.ac_query.specs.Pairs.{pairs_of};
 ghost use Rattle.ac_query.specs.Pairs.Values.{ids_value};
 ghost use Rattle.ac_query.specs.Shown.Queries.{asked_of as shown};
 ghost use Rattle.ac_report.specs.declared.fault.PageFault.TheVariants as PageFault;
-ghost use Rattle.ac_run.specs.Answer.{Says, answer_in, fills, past_query, written};
+ghost use Rattle.ac_run.specs.Answer.{Says, answer_in, fills_by, past_query, written};
 ghost use Rattle.ac_fill.specs.Filled.{asks_units, filled};
 ghost use Rattle.ac_fill.specs.Shown.{IsTakenOf, with_taken};
 ghost use Rattle.ac_run.specs.Outputs.{counted, verdict_text};
@@ -25,8 +25,9 @@ ghost use Rattle.ac_session.specs.Helps.{help_text};
 ghost use Rattle.ac_session.specs.LeftRows.{left_answer};
 ghost use Rattle.ac_session.specs.Lines.{Given};
 ghost use Rattle.ac_session.specs.Reading.{given_by};
-ghost use Rattle.ac_session.specs.Tries.{AskedMayStop, FillMayStop, GivenMayStop, JobMayStop, PlaceMayStop};
-ghost use Rattle.ac_session.specs.Turns.{after_fill, back_turn, claim_said, claim_turn, fill_turn, mark_turn, move_said, move_turn, place_turn, places_named, release_said, release_turn, settles, turn_asked, turn_of, unnamed_task};
+ghost use Rattle.ac_session.specs.Tries.{AskedMayStop, ByIdsMayStop, FillMayStop, GivenMayStop, JobMayStop, PlaceMayStop};
+ghost use Rattle.ac_session.specs.Turns.{after_fill, back_turn, claim_said, claim_turn, fill_turn, mark_turn, move_said, move_turn, place_turn, places_named, release_said, release_turn, settles, turn_asked, turn_by_ids, turn_of};
+ghost use Rattle.ac_session.specs.Turns.Named.{Knows, KnowsNames, are_named, named_task, terms_of};
 ghost use Rattle.ac_session.specs.UsageRows.{usage_rows};
 ghost use Rattle.ac_session.specs.declared.endings.AnswerFault.TheVariants as AnswerFault;
 
@@ -35,13 +36,14 @@ mod marks;
 mod named;
 mod names;
 mod place;
+mod terms;
 
-use crate::endings::{AnswerFault, Ending, broken_off, given, refused, write_said};
+use crate::endings::{AnswerFault, Ending, broken_off, given, refused, unnamed, write_said};
 use crate::help::push_help;
 use crate::left::write_left;
 use crate::line_faults::LineFault;
 use crate::lines::Next;
-use crate::questions::{Question, read_question};
+use crate::questions::{Question, Texts, read_question};
 use crate::turns::marks::Mark;
 use crate::turns::named::{
     answer_named_claim, answer_named_move, answer_named_place, answer_named_release,
@@ -60,26 +62,37 @@ use ac_search::Walk;
 use ac_tables::Cloud;
 pub(crate) use held::Held;
 use std::alloc::Global;
+pub(crate) use terms::{ByNames, Directory, Terms, look_up};
 
-// The answer to a job, of which each search may make so many tries.
+// The answer to a job, of which each search may make as many tries as the terms say.
 fn answer_job<W: Sink>(
     alloc: Global,
     cloud: &Cloud,
+    terms: &Terms<'_, '_>,
     job: Job<'_>,
-    tries: Option<u64>,
     out: &mut W,
 ) -> Result<Ending, AnswerFault>
-    ensures { Gives (JobMayStop tries (world_of cloud.now) (task_of job.entry))
-        (Some (answer_in (unnamed_task (task_of job.entry)) (world_of cloud.now))) result
+    requires { Knows terms.now (world_of cloud.now) }
+    ensures { Gives
+        (JobMayStop terms.now.tries (terms_of terms.now) (world_of cloud.now) (task_of job.entry))
+        (Some (answer_in (named_task (terms_of terms.now) (task_of job.entry))
+        (world_of cloud.now))) result
         (W.taken out.old) (W.taken out.new) (W.failures out.old) (W.failures out.new) }
 {
     let job = Job {
-        tries,
-        names: None,
+        tries: terms.tries,
+        names: terms.table(),
         ..job
     };
     match read_wanted(alloc, &job, cloud) {
-        Ok(wanted) => given(write_answer(alloc, cloud, None, &wanted, tries, out)),
+        Ok(wanted) => given(write_answer(
+            alloc,
+            cloud,
+            terms.providers(),
+            &wanted,
+            terms.tries,
+            out,
+        )),
         Err(refusal) => refused(refusal),
     }
 }
@@ -267,54 +280,59 @@ fn answer_move<W: Sink>(
     }
 }
 
-// The placements of a query, over the cloud as it is. Their search may make so many tries.
+// The placements of a query, over the cloud as it is.
 #[tactic(auto, using(ac_base::proofs::Leaving::part_none, ac_fill::proofs::Ordered::all_rest))]
 fn write_placements<'a, W: Sink>(
     alloc: Global,
     cloud: &Cloud,
+    terms: &Terms<'_, '_>,
     query: &'a Query,
-    tries: Option<u64>,
     out: &mut W,
 ) -> Result<Filled<'a>, PageFault>
-    requires { asks_units (shown query.now) ≡ true }
+    requires known { Knows terms.now (world_of cloud.now) }
+    requires asks { asks_units (shown query.now) ≡ true }
     ensures text { OnOk result (Appends (W.taken out.old) (W.taken out.new)
-        (fills (providers_of cloud.now) false (shown query.now) None).output) }
+        (fills_by (are_named (terms_of terms.now)) (providers_of cloud.now) false
+        (shown query.now) None).output) }
     ensures count { IfOk result (λ f. f.count
         ≡ counted (filled (shown query.now).limit (providers_of cloud.now) (shown query.now))) }
     ensures world { IfOk result (λ f. with_taken f.takings (providers_of cloud.now)
         ≡ after_fill (providers_of cloud.now) (shown query.now)) }
     ensures fits { IfOk result (λ f. IsTakenOf (providers_of cloud.now) f.takings) }
     ensures part { OnErr result (TakesPart (W.taken out.old) (W.taken out.new)
-        (fills (providers_of cloud.now) false (shown query.now) None).output) }
+        (fills_by (are_named (terms_of terms.now)) (providers_of cloud.now) false
+        (shown query.now) None).output) }
     ensures failed { result ≡ Err PageFault.WriteFailed
         → Rises (W.failures out.old) (W.failures out.new) }
     ensures stopped { result ≡ Err PageFault.TooManyTries
-        → MayStop tries (providers_of cloud.now) (shown query.now) None }
+        → MayStop terms.now.tries (providers_of cloud.now) (shown query.now) None }
     ensures failures { W.failures out.old ≤ W.failures out.new }
 {
     let Ok(source) = Walk::new(alloc, cloud, query, None) else {
         return Err(PageFault::NoMemory);
     };
-    let mut source = source.within(tries);
-    write_filled(alloc, cloud, None, query, &mut source, out)
+    let mut source = source.within(terms.tries);
+    write_filled(alloc, cloud, terms.providers(), query, &mut source, out)
 }
 
 // The placements of a query, each of which is claimed, and their status. Where their search stops, none is.
 fn place_all<W: Sink>(
     alloc: Global,
     cloud: &mut Cloud,
+    terms: &Terms<'_, '_>,
     query: &Query,
-    tries: Option<u64>,
     out: &mut W,
 ) -> Result<Ending, AnswerFault>
-    requires { asks_units (shown query.now) ≡ true }
-    ensures { TakesTurn (MayStop tries (providers_of cloud.old) (shown query.now) None)
+    requires known { Knows terms.now (world_of cloud.old) }
+    requires asks { asks_units (shown query.now) ≡ true }
+    ensures { TakesTurn (MayStop terms.now.tries (providers_of cloud.old) (shown query.now) None)
         (world_of cloud.old) (settles 1 (world_of cloud.old)
-        (fills (providers_of cloud.old) false (shown query.now) None)
+        (fills_by (are_named (terms_of terms.now)) (providers_of cloud.old) false
+        (shown query.now) None)
         (after_fill (providers_of cloud.old) (shown query.now))) result (world_of cloud.new)
         (W.taken out.old) (W.taken out.new) (W.failures out.old) (W.failures out.new) }
 {
-    match write_placements(alloc, cloud, query, tries, out) {
+    match write_placements(alloc, cloud, terms, query, out) {
         Ok(mut filled) => {
             filled.takings.settle(cloud);
             Ok(Ending::Given(fill_status(query.limit(), filled.count)))
@@ -327,19 +345,20 @@ fn place_all<W: Sink>(
 fn answer_fill<W: Sink>(
     alloc: Global,
     cloud: &mut Cloud,
-    version: Version,
+    terms: &Terms<'_, '_>,
     query: &str,
-    tries: Option<u64>,
     out: &mut W,
 ) -> Result<Ending, AnswerFault>
-    ensures { TakesTurn (FillMayStop tries version (world_of cloud.old) query.now)
+    requires { Knows terms.now (world_of cloud.old) }
+    ensures { TakesTurn
+        (FillMayStop terms.now.tries (terms_of terms.now) (world_of cloud.old) query.now)
         (world_of cloud.old)
-        (fill_turn version query.now (world_of cloud.old)) result
+        (fill_turn (terms_of terms.now) query.now (world_of cloud.old)) result
         (world_of cloud.new) (W.taken out.old) (W.taken out.new) (W.failures out.old)
         (W.failures out.new) }
 {
-    match read_query(alloc, query, version) {
-        Ok(query) => place_all(alloc, cloud, &query, tries, out),
+    match read_query(alloc, query, terms.version) {
+        Ok(query) => place_all(alloc, cloud, terms, &query, out),
         Err(refusal) => refused(refusal),
     }
 }
@@ -348,19 +367,19 @@ fn answer_fill<W: Sink>(
 fn answer_place<W: Sink>(
     alloc: Global,
     cloud: &mut Cloud,
-    version: Version,
+    terms: &Terms<'_, '_>,
     query: &str,
     host: Option<&str>,
-    tries: Option<u64>,
     out: &mut W,
 ) -> Result<Ending, AnswerFault>
-    ensures { TakesTurn (PlaceMayStop tries version (world_of cloud.old) query.now
-        (option_map (λ t. t.now) host.entry)) (world_of cloud.old)
-        (place_turn version query.now (option_map (λ t. t.now) host.entry) (world_of cloud.old))
-        result (world_of cloud.new) (W.taken out.old) (W.taken out.new) (W.failures out.old)
-        (W.failures out.new) }
+    requires { Knows terms.now (world_of cloud.old) }
+    ensures { TakesTurn (PlaceMayStop terms.now.tries (terms_of terms.now) (world_of cloud.old)
+        query.now (option_map (λ t. t.now) host.entry)) (world_of cloud.old)
+        (place_turn (terms_of terms.now) query.now (option_map (λ t. t.now) host.entry)
+        (world_of cloud.old)) result (world_of cloud.new) (W.taken out.old) (W.taken out.new)
+        (W.failures out.old) (W.failures out.new) }
 {
-    let (ending, _) = place(alloc, cloud, version, query, host, tries, out)?;
+    let (ending, _) = place(alloc, cloud, terms, query, host, out)?;
     Ok(ending)
 }
 
@@ -442,35 +461,36 @@ fn answer_help<W: Sink>(out: &mut W) -> Result<Ending, AnswerFault>
     Ok(Ending::Given(0))
 }
 
-// Answers a question, and changes what is held where it is a claim, a release, a move, a placement, a mark or a way back.
-fn answer_question<W: Sink>(
+// Answers a question by UUIDs, and changes what is held where it is a claim, a release, a move, a placement, a mark or a way back.
+fn answer_by_ids<W: Sink>(
     alloc: Global,
     held: &mut Held,
-    version: Version,
-    tries: Option<u64>,
+    terms: &Terms<'_, '_>,
     question: Question<'_>,
     out: &mut W,
 ) -> Result<Ending, AnswerFault>
-    ensures { TakesTurn
-        (AskedMayStop tries version (held_of held.old) (asked_in question.entry))
-        (held_of held.old) (turn_asked version (held_of held.old) (asked_in question.entry))
+    requires { Knows terms.now (held_of held.old).world }
+    ensures { TakesTurn (ByIdsMayStop terms.now.tries (terms_of terms.now) (held_of held.old)
+        (asked_in question.entry)) (held_of held.old)
+        (turn_by_ids (terms_of terms.now) (held_of held.old) (asked_in question.entry))
         result (held_of held.new) (W.taken out.old) (W.taken out.new) (W.failures out.old)
         (W.failures out.new) }
 {
+    let version = terms.version;
     let cloud = &mut held.cloud;
     match question {
-        Question::Job(job) => answer_job(alloc, cloud, job, tries, out),
-        Question::Fill { query } => answer_fill(alloc, cloud, version, query, tries, out),
+        Question::Job(job) => answer_job(alloc, cloud, terms, job, out),
+        Question::Fill { query } => answer_fill(alloc, cloud, terms, query, out),
         Question::Place {
             query,
             name: None,
             host,
-        } => answer_place(alloc, cloud, version, query, host, tries, out),
+        } => answer_place(alloc, cloud, terms, query, host, out),
         Question::Place {
             query,
             name: Some(name),
             host,
-        } => answer_named_place(alloc, held, version, query, name, host, tries, out),
+        } => answer_named_place(alloc, held, terms, query, name, host, out),
         Question::Claim {
             query,
             token,
@@ -497,20 +517,64 @@ fn answer_question<W: Sink>(
     }
 }
 
-/// Answers what a reader of lines gave: writes the output, and gives how the answer ends. Each search may make so many tries. A failure gives nothing, and
-/// nothing is answered.
+// Answers a question in which names may stand in place of UUIDs.
+fn answer_by_names<W: Sink>(
+    alloc: Global,
+    held: &mut Held,
+    terms: &Terms<'_, '_>,
+    names: &ByNames<'_>,
+    question: &Question<'_>,
+    out: &mut W,
+) -> Result<Ending, AnswerFault>
+    requires known { Knows terms.now (held_of held.old).world }
+    requires names { KnowsNames (held_of held.old).world names.now }
+    requires table { (terms_of terms.now).names ≡ Some names.now.table.now }
+    ensures { TakesTurn (AskedMayStop terms.now.tries (terms_of terms.now) (held_of held.old)
+        (asked_in question.now)) (held_of held.old)
+        (turn_asked (terms_of terms.now) (held_of held.old) (asked_in question.now))
+        result (held_of held.new) (W.taken out.old) (W.taken out.new) (W.failures out.old)
+        (W.failures out.new) }
+{
+    match Texts::read(alloc, *question, names.naming()) {
+        Ok(texts) => answer_by_ids(alloc, held, terms, texts.question(question), out),
+        Err(refusal) => unnamed(refusal),
+    }
+}
+
+// Answers a question.
+fn answer_question<W: Sink>(
+    alloc: Global,
+    held: &mut Held,
+    terms: &Terms<'_, '_>,
+    question: Question<'_>,
+    out: &mut W,
+) -> Result<Ending, AnswerFault>
+    requires { Knows terms.now (held_of held.old).world }
+    ensures { TakesTurn (AskedMayStop terms.now.tries (terms_of terms.now) (held_of held.old)
+        (asked_in question.entry)) (held_of held.old)
+        (turn_asked (terms_of terms.now) (held_of held.old) (asked_in question.entry))
+        result (held_of held.new) (W.taken out.old) (W.taken out.new) (W.failures out.old)
+        (W.failures out.new) }
+{
+    match terms.names {
+        Some(names) => answer_by_names(alloc, held, terms, names, &question, out),
+        None => answer_by_ids(alloc, held, terms, question, out),
+    }
+}
+
+/// Answers what a reader of lines gave: writes the output, and gives how the answer ends. A failure gives nothing, and nothing is answered.
 #[tactic(auto, unfolding(crate::specs::Turns::turn_of, crate::specs::Tries::GivenMayStop))]
 pub(crate) fn answer_next<W: Sink>(
     alloc: Global,
     held: &mut Held,
-    version: Version,
-    tries: Option<u64>,
+    terms: &Terms<'_, '_>,
     next: Next<'_>,
     out: &mut W,
 ) -> Result<Ending, AnswerFault>
+    requires { Knows terms.now (held_of held.old).world }
     ensures turn { (given : Given) → given_by next.entry ≡ Some given
-        → TakesTurn (GivenMayStop tries version (held_of held.old) given)
-        (held_of held.old) (turn_of version (held_of held.old) given) result
+        → TakesTurn (GivenMayStop terms.now.tries (terms_of terms.now) (held_of held.old) given)
+        (held_of held.old) (turn_of (terms_of terms.now) (held_of held.old) given) result
         (held_of held.new) (W.taken out.old) (W.taken out.new) (W.failures out.old)
         (W.failures out.new) }
     ensures failed { result ≡ Err AnswerFault.WriteFailed
@@ -519,14 +583,8 @@ pub(crate) fn answer_next<W: Sink>(
 {
     match next {
         Next::Line(line) => {
-            answer_question(
-                alloc,
-                held,
-                version,
-                tries,
-                read_question(line, version),
-                out,
-            )
+            let question = read_question(line, terms.version);
+            answer_question(alloc, held, terms, question, out)
         }
         Next::TooLong => Ok(Ending::Faulted(LineFault::TooLong)),
         Next::End | Next::Failed => Ok(Ending::Unasked),

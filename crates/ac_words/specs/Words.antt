@@ -84,16 +84,24 @@ with_tries app = with_rule (with_options app) (option_rule (codes "tries"))
 abbrev pub with_format : App → App
 with_format app = with_rule app (record (option_rule (codes "format")) { short = Some 102 })
 
--- a command with a query, in which names may stand in place of UUIDs
+-- whether names stand in place of UUIDs
+abbrev pub with_names : App → App
+with_names app = with_rule app (flag_rule (codes "names"))
+
+-- the options of a search for a query: those of a command that searches, and whether names stand in place of UUIDs
+abbrev pub with_search : App → App
+with_search app = with_names (with_tries app)
+
+-- a command with a query
 abbrev pub query_app : Text → App
-query_app name = with_rule (with_rule (new_app name) (word_rule (codes "query"))) (flag_rule (codes "names"))
+query_app name = with_rule (new_app name) (word_rule (codes "query"))
 
 abbrev pub check_app : App
 check_app = with_common (new_app (codes "check"))
 
 -- a command that writes candidates
 abbrev pub search_app : Text → App
-search_app name = with_rule (with_rule (with_tries (query_app name)) (option_rule (codes "after"))) (option_rule (codes "at"))
+search_app name = with_rule (with_rule (with_search (query_app name)) (option_rule (codes "after"))) (option_rule (codes "at"))
 
 -- a command that writes candidates with what is told of their providers
 abbrev pub shown_app : Text → App
@@ -109,19 +117,19 @@ abbrev pub list_app : App
 list_app = with_format (shown_app (codes "list"))
 
 abbrev pub fill_app : App
-fill_app = with_rule (with_tries (query_app (codes "fill"))) (flag_rule (codes "sum"))
+fill_app = with_rule (with_search (query_app (codes "fill"))) (flag_rule (codes "sum"))
 
 abbrev pub verify_app : App
-verify_app = with_options (with_rule (query_app (codes "verify")) (word_rule (codes "token")))
+verify_app = with_names (with_options (with_rule (query_app (codes "verify")) (word_rule (codes "token"))))
 
 abbrev pub explain_app : App
-explain_app = with_tries (query_app (codes "explain"))
+explain_app = with_search (query_app (codes "explain"))
 
 abbrev pub hosts_app : App
-hosts_app = with_format (with_rule (with_rule (with_tries (query_app (codes "hosts"))) (option_rule (codes "in"))) (flag_rule (codes "sum")))
+hosts_app = with_format (with_rule (with_rule (with_search (query_app (codes "hosts"))) (option_rule (codes "in"))) (flag_rule (codes "sum")))
 
 abbrev pub why_app : App
-why_app = with_format (with_tries (with_rule (query_app (codes "why")) (word_rule (codes "host"))))
+why_app = with_format (with_search (with_rule (query_app (codes "why")) (word_rule (codes "host"))))
 
 -- a command with a table of flavors
 abbrev pub capacity_app : App
@@ -129,7 +137,7 @@ capacity_app = with_format (with_rule (with_tries (with_rule (new_app (codes "ca
 
 -- a query, with an answer of the service
 abbrev pub compare_app : App
-compare_app = with_tries (with_rule (query_app (codes "compare")) (word_rule (codes "answer")))
+compare_app = with_search (with_rule (query_app (codes "compare")) (word_rule (codes "answer")))
 
 abbrev pub audit_app : App
 audit_app = with_format (with_rule (with_common (new_app (codes "audit"))) (option_rule (codes "zone")))
@@ -140,7 +148,7 @@ reading_app = with_version (with_detail (with_rule (new_app (codes "query")) (fr
 
 -- a session, which reads its queries later
 abbrev pub session_app : App
-session_app = with_tries (new_app (codes "session"))
+session_app = with_search (new_app (codes "session"))
 
 -- what is told of a command
 abbrev pub app_for : Name → App

@@ -234,9 +234,9 @@ fn push_called_line<E: Sink>(err: &mut E, row: u32, name: &[u8]) -> Result<(), W
     push_line_at(err, b"aggregate-names", row, name)
 }
 
-// The line of names that can't be read.
+/// The line of names that can't be read.
 #[tactic(auto, unfolding(crate::specs::Lines::memory_line, crate::specs::Lines::names_line))]
-fn push_names_line<E: Sink>(err: &mut E, refusal: NamesRefusal) -> Result<(), WriteFailed>
+pub fn push_names_line<E: Sink>(err: &mut E, refusal: NamesRefusal) -> Result<(), WriteFailed>
     ensures { Pushes E.taken E.failures err.old err.new result (names_line refusal) }
 {
     match refusal {
@@ -293,8 +293,8 @@ pub fn asked_status(refusal: &AskRefusal) -> u8
     }
 }
 
-// The status of names that can't be read.
-fn names_status(refusal: NamesRefusal) -> u8
+/// The status of names that can't be read.
+pub fn names_status(refusal: NamesRefusal) -> u8
     ensures { result ≡ status_of_names refusal }
 {
     match refusal {

@@ -57,3 +57,26 @@ fn refused_tables_in_detail(rt: HostRuntime) {
         expect_left(&rt, &left, "", UNKNOWN, 3);
     }
 }
+
+// The same providers, with names.
+const NAMED: &str = "uuid,name,root_provider_uuid,parent_provider_uuid\n@1,a,@1,\n@2,b,@2,\n";
+
+#[test]
+fn questions_by_names(rt: HostRuntime) {
+    let turns = Turns {
+        names: Some(b"uuid,name\n"),
+        ..SOUND
+    };
+    let questions =
+        "claim resources=VCPU:5 a\ntokens resources=VCPU:5&in_tree=b\nverify resources=VCPU:5 c\nfill resources=VCPU:5\n";
+    let answers = "claimed\n= 0\nb\n= 0\n= 5 token: UnknownName\nb\n= 0\n";
+    let Ok(left) = run_over(rt.alloc(), NAMED, questions, turns) else {
+        return;
+    };
+    if left.status == 7 {
+        assert!(rt; left.line.as_str() == "out of memory\n");
+        assert!(rt; answers.starts_with(left.output.as_str()));
+    } else {
+        expect_left(&rt, &left, answers, "", 0);
+    }
+}

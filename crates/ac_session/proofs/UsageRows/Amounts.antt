@@ -6,11 +6,11 @@ use Rattle.std.specs.List.{range_with_len}
 use Rattle.ac_base.specs.Quantities.{InventoryNumbers}
 use Rattle.ac_cloud.specs.Amounts.{entry_using, provider_using, with_amounts}
 use Rattle.ac_cloud.specs.World.{Provider, UsedInventory, provider_at}
-use Rattle.ac_query.specs.declared.version.Version.{Version}
 use Rattle.ac_session.proofs.Differing.{lines_using, using_same}
 use Rattle.ac_session.specs.Held.{unnamed}
 use Rattle.ac_session.specs.Laws.{providers_behind}
 use Rattle.ac_session.specs.Lines.{Given}
+use Rattle.ac_session.specs.Turns.Named.{Terms}
 use Rattle.ac_tables.specs.Tables.{Tables, aggregates_of, amounts_of, gathered, ids_of, inventories_of, names_of, with_used, world_stated}
 use Rattle.ac_tables.specs.Tables.AggregateTable.{aggregates_said}
 use Rattle.ac_tables.specs.Tables.InventoryTable.{inventories_said}
@@ -83,8 +83,8 @@ amounts_stated t ids amount all h = at_places t amount all 0 all ids (λ j. ap (
 
 -- ---- behind the lines of a session
 
-pub session_stated : (version : Version) (t : Tables) (lines : List Given) → AreStated t (ids_of t.providers) (providers_behind version (unnamed (world_stated t)) lines)
+pub session_stated : (terms : Terms) (t : Tables) (lines : List Given) → AreStated t (ids_of t.providers) (providers_behind terms (unnamed (world_stated t)) lines)
 unfolding world_stated
-session_stated version t lines =
-    let known = lines_using (world_stated t) version (unnamed (world_stated t)) lines (using_same (world_stated t)) in
+session_stated terms t lines =
+    let known = lines_using (world_stated t) terms (unnamed (world_stated t)) lines (using_same (world_stated t)) in
     subst (AreStated t (ids_of t.providers)) (sym known.providers) (amounts_stated t (ids_of t.providers) known.amount (world_stated t).providers (gathered_stated t (ids_of t.providers)))

@@ -250,5 +250,5 @@ module _ (t : Tables) (fine : tables_fault t ≡ None) (all : List Provider) (st
   }
 
 pub sessions_go_on : SessionsGoOn
-sessions_go_on version tables questions fine fit =
-    goes_on tables fine (providers_behind version (unnamed (world_stated tables)) (lines_in questions)) (session_stated version tables (lines_in questions)) fit
+sessions_go_on terms tables questions fine fit =
+    goes_on tables fine (providers_behind terms (unnamed (world_stated tables)) (lines_in questions)) (session_stated terms tables (lines_in questions)) fit

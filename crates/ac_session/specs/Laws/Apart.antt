@@ -1,7 +1,6 @@
 -- Answers are read apart: each up to the first line that begins with `=`.
 use Rattle.std.specs.Prelude.{◌≡◌, ◌≢◌, ℕ, zero, suc, ◌==◌, Bool, false, true, List, [], ◌∷◌, ◌++◌, drop, length, if◌then◌else◌, Option}
 use Rattle.std.specs.List.{flat_map, slice_split}
-use Rattle.ac_query.specs.declared.version.Version.{Version}
 use Rattle.ac_rules.specs.Together.{is_empty}
 use Rattle.ac_session.specs.Escapes.{plain}
 use Rattle.ac_session.specs.Frames.{begins_line, last_newline, lines_written}
@@ -10,6 +9,7 @@ use Rattle.ac_session.specs.Lines.{Given, is_newline, newline}
 use Rattle.ac_session.specs.Questions.{Text}
 use Rattle.ac_session.specs.Tries.{text_with, turn_at}
 use Rattle.ac_session.specs.Turns.{session_text, text_of, turn_of}
+use Rattle.ac_session.specs.Turns.Named.{Terms}
 
 -- ---- how a driver reads
 
@@ -41,35 +41,35 @@ answers_read (suc n) text = first_answer text ∷ answers_read n (drop (length (
 -- Who reads up to the first line that begins with `=` has read what is written for a line of a session, whatever it says and whatever stands behind it.
 abbrev pub AnswersApart : Type 0
 AnswersApart =
-    (version : Version) (held : Held) (given : Given) → text_of (turn_of version held given) ≢ []
-    → (rest : Text) → first_answer (text_of (turn_of version held given) ++ rest) ≡ text_of (turn_of version held given)
+    (terms : Terms) (held : Held) (given : Given) → text_of (turn_of terms held given) ≢ []
+    → (rest : Text) → first_answer (text_of (turn_of terms held given) ++ rest) ≡ text_of (turn_of terms held given)
 
 -- Who takes the blank off each line that begins with one has the lines of the answer again.
 abbrev pub BlanksComeOff : Type 0
 BlanksComeOff = (text : Text) → plain true (lines_written text) ≡ text ++ last_newline (begins_line true text)
 
 -- what is written for lines one after another, but for those that have no answer
-abbrev pub answers_of : Version → Held → List Given → List Text
-answers_of version held [] = []
-answers_of version held (given ∷ others) =
-    let turn = turn_of version held given in
-    if is_empty (text_of turn) then answers_of version turn.state others else text_of turn ∷ answers_of version turn.state others
+abbrev pub answers_of : Terms → Held → List Given → List Text
+answers_of terms held [] = []
+answers_of terms held (given ∷ others) =
+    let turn = turn_of terms held given in
+    if is_empty (text_of turn) then answers_of terms turn.state others else text_of turn ∷ answers_of terms turn.state others
 
 -- Who reads a session answer by answer reads what is written for one line after another.
 abbrev pub SessionsApart : Type 0
-SessionsApart = (version : Version) (held : Held) (lines : List Given)
-    → answers_read (length (answers_of version held lines)) (session_text version held lines) ≡ answers_of version held lines
+SessionsApart = (terms : Terms) (held : Held) (lines : List Given)
+    → answers_read (length (answers_of terms held lines)) (session_text terms held lines) ≡ answers_of terms held lines
 
 -- the same, where the searches of some lines stopped
-abbrev pub answers_with : Version → Held → List (Option (List ℕ)) → List Given → List Text
-answers_with version held [] lines = answers_of version held lines
-answers_with version held (stop ∷ stops) [] = []
-answers_with version held (stop ∷ stops) (given ∷ others) =
-    let turn = turn_at version held stop given in
-    let later = answers_with version turn.state stops others in
+abbrev pub answers_with : Terms → Held → List (Option (List ℕ)) → List Given → List Text
+answers_with terms held [] lines = answers_of terms held lines
+answers_with terms held (stop ∷ stops) [] = []
+answers_with terms held (stop ∷ stops) (given ∷ others) =
+    let turn = turn_at terms held stop given in
+    let later = answers_with terms turn.state stops others in
     if is_empty (text_of turn) then later else text_of turn ∷ later
 
 -- So does who reads one in which searches stopped.
 abbrev pub StoppedApart : Type 0
-StoppedApart = (version : Version) (held : Held) (stops : List (Option (List ℕ))) (lines : List Given)
-    → answers_read (length (answers_with version held stops lines)) (text_with version held stops lines) ≡ answers_with version held stops lines
+StoppedApart = (terms : Terms) (held : Held) (stops : List (Option (List ℕ))) (lines : List Given)
+    → answers_read (length (answers_with terms held stops lines)) (text_with terms held stops lines) ≡ answers_with terms held stops lines

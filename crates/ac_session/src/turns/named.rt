@@ -4,10 +4,12 @@ ghost use Rattle.ac_session.specs.Held.{claim_shown, held_of, named_in};
 ghost use Rattle.ac_session.specs.Standing.{IsNamed, TakesTurn, status_told};
 ghost use Rattle.ac_session.specs.Tries.{NamedPlaceMayStop};
 ghost use Rattle.ac_session.specs.Turns.{is_done, named_claim_turn, named_move_turn, named_place_turn, named_release_turn};
+ghost use Rattle.ac_session.specs.Turns.Named.{Knows, terms_of};
 
 use super::held::Held;
 use super::names::{Claim, Names};
 use super::place::place;
+use super::terms::Terms;
 use super::{answer_claim, answer_move, answer_release};
 use crate::endings::{AnswerFault, Ending, write_said};
 use ac_base::Sink;
@@ -99,24 +101,24 @@ pub(super) fn answer_named_claim<W: Sink>(
 pub(super) fn answer_named_place<W: Sink>(
     alloc: Global,
     held: &mut Held,
-    version: Version,
+    terms: &Terms<'_, '_>,
     query: &str,
     name: &str,
     host: Option<&str>,
-    tries: Option<u64>,
     out: &mut W,
 ) -> Result<Ending, AnswerFault>
-    ensures { TakesTurn (NamedPlaceMayStop tries version (held_of held.old) query.now name.now
-        (option_map (λ t. t.now) host.entry)) (held_of held.old)
-        (named_place_turn version query.now (option_map (λ t. t.now) host.entry) name.now
-        (held_of held.old)) result (held_of held.new) (W.taken out.old) (W.taken out.new)
-        (W.failures out.old) (W.failures out.new) }
+    requires { Knows terms.now (held_of held.old).world }
+    ensures { TakesTurn (NamedPlaceMayStop terms.now.tries (terms_of terms.now)
+        (held_of held.old) query.now name.now (option_map (λ t. t.now) host.entry))
+        (held_of held.old) (named_place_turn (terms_of terms.now) query.now
+        (option_map (λ t. t.now) host.entry) name.now (held_of held.old)) result
+        (held_of held.new) (W.taken out.old) (W.taken out.new) (W.failures out.old)
+        (W.failures out.new) }
 {
     if let Some(_) = held.names.find(name) {
         return write_said(out, b"in use\n", 1);
     }
-    let cloud = &mut held.cloud;
-    let (ending, token) = match place(alloc, cloud, version, query, host, tries, out) {
+    let (ending, token) = match place(alloc, &mut held.cloud, terms, query, host, out) {
         Ok(placed) => placed,
         Err(fault) => return Err(fault),
     };

@@ -14,11 +14,14 @@ ghost use Rattle.ac_search.specs.Shown.Walk.{MayStop};
 ghost use Rattle.ac_session.specs.Standing.{TakesTurn, ending_in, status_told};
 ghost use Rattle.ac_session.specs.Tries.{PlaceMayStop};
 ghost use Rattle.ac_session.specs.Turns.{first_at, is_done, place_turn, placed_said, settles, token_placed};
+ghost use Rattle.ac_session.specs.Turns.Named.{Knows, are_named, terms_of};
 
+use super::terms::Terms;
 use crate::endings::{AnswerFault, Ending, broken_off, refused};
-use ac_base::{Sink, push_pieces};
-use ac_query::{Query, Token, Version};
+use ac_base::{Sink, push_all};
+use ac_query::{Query, Token};
 use ac_report::PageFault;
+use ac_report::lines::put_line_by;
 use ac_rules::{InCloud, Source, claim};
 use ac_run::{find_root, read_query};
 use ac_search::Walk;
@@ -49,18 +52,20 @@ fn first_at(
     Ok(Some(list))
 }
 
-// Claims a candidate, and writes its token. Gives how the answer ends, and the token.
+// Claims a candidate, and writes its line, by names where they are told. Gives how the answer ends, and the token.
 fn claim_first<W: Sink>(
     alloc: Global,
     cloud: &mut Cloud,
+    terms: &Terms<'_, '_>,
     query: &Query,
     list: &[u32],
     out: &mut W,
 ) -> Result<(Ending, String), AnswerFault>
+    requires known { Knows terms.now (world_of cloud.old) }
     requires list { IsAssignment (providers_of cloud.old) (shown query.now) list.now }
     requires candidate { is_candidate (providers_of cloud.old) (shown query.now) list.now ≡ true }
     ensures turn { TakesTurn ⊥ (world_of cloud.old) (settles 0 (world_of cloud.old)
-        (placed_said (providers_of cloud.old) (Some list.now))
+        (placed_said (are_named (terms_of terms.now)) (providers_of cloud.old) (Some list.now))
         (claimed (providers_of cloud.old) (assigned (shown query.now) list.now)))
         (ending_in result) (world_of cloud.new) (W.taken out.old) (W.taken out.new)
         (W.failures out.old) (W.failures out.new) }
@@ -68,8 +73,10 @@ fn claim_first<W: Sink>(
         ≡ ids_text (ids_of (providers_of cloud.old) list.now)) }
 {
     let token = Token::write(alloc, cloud, list)?;
+    let mut line = Vec::new(alloc);
+    put_line_by(alloc, &mut line, cloud, terms.providers(), list)?;
     claim(cloud, query, list);
-    push_pieces(out, &[token.as_bytes(), b"\n"])?;
+    push_all(out, &line)?;
     Ok((Ending::Given(0), token))
 }
 
@@ -83,19 +90,21 @@ fn unplaced(
     Ok((answered?, String::new(alloc)))
 }
 
-// Claims the first candidate, of those at a root where one is named, and writes its token. Gives how the answer ends, and the token.
+// Claims the first candidate, of those at a root where one is named, and writes its line. Gives how the answer ends, and the token.
 fn place_first<W: Sink>(
     alloc: Global,
     cloud: &mut Cloud,
+    terms: &Terms<'_, '_>,
     query: &Query,
     root: Option<u32>,
-    tries: Option<u64>,
     out: &mut W,
 ) -> Result<(Ending, String), AnswerFault>
-    requires { IfSome root (λ place. place < length (providers_of cloud.old)) }
-    ensures turn { TakesTurn (MayStop tries (providers_of cloud.old) (shown query.now) None)
+    requires known { Knows terms.now (world_of cloud.old) }
+    requires root { IfSome root (λ place. place < length (providers_of cloud.old)) }
+    ensures turn { TakesTurn
+        (MayStop terms.now.tries (providers_of cloud.old) (shown query.now) None)
         (world_of cloud.old) (settles 0 (world_of cloud.old)
-        (placed_said (providers_of cloud.old)
+        (placed_said (are_named (terms_of terms.now)) (providers_of cloud.old)
         (first_at (providers_of cloud.old) (shown query.now) root))
         (claimed (providers_of cloud.old) (assigned (shown query.now)
         (unwrap_or (first_at (providers_of cloud.old) (shown query.now) root) []))))
@@ -105,39 +114,39 @@ fn place_first<W: Sink>(
         → string_bytes given.1 ≡ ids_text (ids_of (providers_of cloud.old)
         (unwrap_or (first_at (providers_of cloud.old) (shown query.now) root) []))) }
 {
-    match first_at(alloc, cloud, query, root, tries) {
-        Ok(Some(list)) => claim_first(alloc, cloud, query, &list, out),
+    match first_at(alloc, cloud, query, root, terms.tries) {
+        Ok(Some(list)) => claim_first(alloc, cloud, terms, query, &list, out),
         Ok(None) => unplaced(alloc, Ok(Ending::Given(1))),
         Err(fault) => unplaced(alloc, broken_off(fault)),
     }
 }
 
-/// Claims the first candidate for a query, of those at the root of a host where one is named, and writes its token. Its search may make so many tries. Gives
-/// how the answer ends, and where it is that this is done, the token.
+/// Claims the first candidate for a query, of those at the root of a host where one is named, and writes its line. Gives how the answer ends, and where it is
+/// that this is done, the token.
 pub(super) fn place<W: Sink>(
     alloc: Global,
     cloud: &mut Cloud,
-    version: Version,
+    terms: &Terms<'_, '_>,
     query: &str,
     host: Option<&str>,
-    tries: Option<u64>,
     out: &mut W,
 ) -> Result<(Ending, String), AnswerFault>
-    ensures turn { TakesTurn (PlaceMayStop tries version (world_of cloud.old) query.now
-        (option_map (λ t. t.now) host.entry)) (world_of cloud.old)
-        (place_turn version query.now (option_map (λ t. t.now) host.entry) (world_of cloud.old))
-        (ending_in result) (world_of cloud.new) (W.taken out.old) (W.taken out.new)
-        (W.failures out.old) (W.failures out.new) }
+    requires { Knows terms.now (world_of cloud.old) }
+    ensures turn { TakesTurn (PlaceMayStop terms.now.tries (terms_of terms.now)
+        (world_of cloud.old) query.now (option_map (λ t. t.now) host.entry)) (world_of cloud.old)
+        (place_turn (terms_of terms.now) query.now (option_map (λ t. t.now) host.entry)
+        (world_of cloud.old)) (ending_in result) (world_of cloud.new) (W.taken out.old)
+        (W.taken out.new) (W.failures out.old) (W.failures out.new) }
     ensures token { IfOk result (λ given. is_done (status_told given.0) ≡ true
-        → string_bytes given.1 ≡ token_placed version query.now
+        → string_bytes given.1 ≡ token_placed terms.now.version query.now
         (option_map (λ t. t.now) host.entry) (world_of cloud.old)) }
 {
-    let query = match read_query(alloc, query, version) {
+    let query = match read_query(alloc, query, terms.version) {
         Ok(query) => query,
         Err(refusal) => return unplaced(alloc, refused(refusal)),
     };
     match find_root(cloud, host) {
-        Ok(root) => place_first(alloc, cloud, &query, root, tries, out),
+        Ok(root) => place_first(alloc, cloud, terms, &query, root, out),
         Err(refusal) => unplaced(alloc, refused(refusal)),
     }
 }

@@ -2,7 +2,7 @@
 ghost use Rattle.std.specs.Prelude.{◌≡◌, IfOk, false};
 ghost use Rattle.clap.specs.Words.{app_of, rule_of};
 ghost use Rattle.clap.specs.declared.builder.command.Command.TheViews.{out-Command as fields_of};
-ghost use Rattle.ac_words.specs.Words.{app_for, audit_app, candidates_app, capacity_app, compare_app, check_app, explain_app, fill_app, flag_rule, free_rule, hosts_app, list_app, option_rule, program, query_app, reading_app, search_app, session_app, shown_app, tokens_app, verify_app, why_app, with_change, with_common, with_detail, with_format, with_options, with_tables, with_tries, with_version, word_rule};
+ghost use Rattle.ac_words.specs.Words.{app_for, audit_app, candidates_app, capacity_app, compare_app, check_app, explain_app, fill_app, flag_rule, free_rule, hosts_app, list_app, option_rule, program, query_app, reading_app, search_app, session_app, shown_app, tokens_app, verify_app, why_app, with_change, with_common, with_detail, with_format, with_names, with_options, with_search, with_tables, with_tries, with_version, word_rule};
 
 use super::help;
 use crate::name::Name;
@@ -183,6 +183,30 @@ fn add_tries<'a>(alloc: Global, command: Command<'a>) -> Result<Command<'a>, All
     Ok(command)
 }
 
+// Adds whether names stand in place of UUIDs.
+fn add_names<'a>(alloc: Global, command: Command<'a>) -> Result<Command<'a>, AllocError>
+    ensures app { IfOk result (λ c. app_of c ≡ with_names (app_of command.entry)) }
+    ensures local { (fields_of command.entry).has_globals ≡ false
+        → IfOk result (λ c. (fields_of c).has_globals ≡ false) }
+{
+    command.arg(flag(
+        alloc,
+        "names",
+        "Reads names in `in_tree`, `member_of` and tokens too: of providers, and of aggregates by aggregate-names.csv of the folder; \
+         tokens are written by names as well",
+    ))
+}
+
+// Adds the options of a search for a query: those of a command that searches, and whether names stand in place of UUIDs.
+fn add_search<'a>(alloc: Global, command: Command<'a>) -> Result<Command<'a>, AllocError>
+    ensures app { IfOk result (λ c. app_of c ≡ with_search (app_of command.entry)) }
+    ensures local { (fields_of command.entry).has_globals ≡ false
+        → IfOk result (λ c. (fields_of c).has_globals ≡ false) }
+{
+    let command = add_tries(alloc, command)?;
+    add_names(alloc, command)
+}
+
 // Adds the form in which rows are written.
 fn add_format<'a>(alloc: Global, command: Command<'a>) -> Result<Command<'a>, AllocError>
     ensures app { IfOk result (λ c. app_of c ≡ with_format (app_of command.entry)) }
@@ -213,18 +237,12 @@ fn with_query<'a>(
         .about(about)
         .override_usage(usage)
         .after_help(below);
-    let command = command.arg(word(
+    command.arg(word(
         alloc,
         "query",
         "QUERY",
         "What is asked for, between '..' since the shell reads & ! and ? otherwise; of a URL, what \
          stands behind its ?",
-    ))?;
-    command.arg(flag(
-        alloc,
-        "names",
-        "Reads names in `in_tree`, `member_of` and tokens too: of providers, and of aggregates by aggregate-names.csv of the folder; \
-         `tokens` and `fill` write names as well",
     ))
 }
 
@@ -253,7 +271,7 @@ fn search<'a>(
     ensures app { IfOk result (λ c. app_of c ≡ search_app name.entry.now) }
     ensures local { IfOk result (λ c. (fields_of c).has_globals ≡ false) }
 {
-    let command = add_tries(alloc, with_query(alloc, name, about, usage, below)?)?;
+    let command = add_search(alloc, with_query(alloc, name, about, usage, below)?)?;
     let command = command.arg(option(
         alloc,
         "after",
@@ -342,7 +360,7 @@ fn fill<'a>(alloc: Global) -> Result<Command<'a>, AllocError>
          ac_cli fill [OPTIONS] --providers <FILE> --inventories <FILE> <QUERY>",
         help::FILL,
     )?;
-    let command = add_tries(alloc, command)?;
+    let command = add_search(alloc, command)?;
     command.arg(flag(
         alloc,
         "sum",
@@ -368,7 +386,8 @@ fn verify<'a>(alloc: Global) -> Result<Command<'a>, AllocError>
         "TOKEN",
         "The UUIDs of providers, as `tokens` writes them",
     ))?;
-    add_options(alloc, command)
+    let command = add_options(alloc, command)?;
+    add_names(alloc, command)
 }
 
 fn explain<'a>(alloc: Global) -> Result<Command<'a>, AllocError>
@@ -383,7 +402,7 @@ fn explain<'a>(alloc: Global) -> Result<Command<'a>, AllocError>
          ac_cli explain [OPTIONS] --providers <FILE> --inventories <FILE> <QUERY>",
         help::EXPLAIN,
     )?;
-    add_tries(alloc, command)
+    add_search(alloc, command)
 }
 
 fn hosts<'a>(alloc: Global) -> Result<Command<'a>, AllocError>
@@ -398,7 +417,7 @@ fn hosts<'a>(alloc: Global) -> Result<Command<'a>, AllocError>
          ac_cli hosts [OPTIONS] --providers <FILE> --inventories <FILE> <QUERY>",
         help::HOSTS,
     )?;
-    let command = add_tries(alloc, command)?;
+    let command = add_search(alloc, command)?;
     let command = command.arg(option(
         alloc,
         "in",
@@ -431,7 +450,7 @@ fn why<'a>(alloc: Global) -> Result<Command<'a>, AllocError>
         "HOST",
         "A provider of the host: its UUID, or a name that no other provider has",
     ))?;
-    let command = add_tries(alloc, command)?;
+    let command = add_search(alloc, command)?;
     add_format(alloc, command)
 }
 
@@ -479,7 +498,7 @@ fn compare<'a>(alloc: Global) -> Result<Command<'a>, AllocError>
         "ANSWER",
         "What the service answered: a body of GET /allocation_candidates (JSON)",
     ))?;
-    add_tries(alloc, command)
+    add_search(alloc, command)
 }
 
 fn audit<'a>(alloc: Global) -> Result<Command<'a>, AllocError>
@@ -537,7 +556,7 @@ fn session<'a>(alloc: Global) -> Result<Command<'a>, AllocError>
              ac_cli session [OPTIONS] --providers <FILE> --inventories <FILE>",
         )
         .after_help(help::SESSION);
-    add_tries(alloc, command)
+    add_search(alloc, command)
 }
 
 // A command by itself.

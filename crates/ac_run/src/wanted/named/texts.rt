@@ -1,7 +1,6 @@
 //! The texts of a job with UUIDs in place of names.
 ghost use Rattle.std.specs.Prelude.{◌≡◌, IfErr, IfOk, None, OnOk, Ok, map, option_map, string_bytes};
 ghost use Rattle.ac_cloud.specs.Cloud.CloudWorld.{providers_of};
-ghost use Rattle.ac_report.specs.Called as called_by;
 ghost use Rattle.ac_report.specs.Called.{AreCalled, providers_called};
 ghost use Rattle.ac_run.specs.Naming.{ExplainsNames, TellsNames, names_refused, query_asked, task_by, task_with_ids, token_asked};
 ghost use Rattle.ac_run.specs.Tasks.{task_of};
@@ -25,7 +24,7 @@ const MOST_BYTES: usize = 67_108_864;
 
 /// The names of aggregates that a table says.
 #[tactic(auto, unfolding(crate::specs::Naming::names_refused))]
-pub(crate) fn read_names(alloc: Global, text: &[u8]) -> Result<Vec<Called>, NamesRefusal>
+pub fn read_names(alloc: Global, text: &[u8]) -> Result<Vec<Called>, NamesRefusal>
     ensures called { IfOk result (λ called.
         map called_shown called.items ≡ called_said (records_of text.now)) }
     ensures fine { OnOk result (names_refused text.now ≡ None) }
@@ -41,8 +40,8 @@ pub(crate) fn read_names(alloc: Global, text: &[u8]) -> Result<Vec<Called>, Name
     }
 }
 
-// The names of some aggregates.
-fn aggregate_names<'a>(alloc: Global, called: &'a [Called]) -> Result<Names<'a>, NoMemory>
+// The names of those that have these.
+fn names_of<'a>(alloc: Global, called: &'a [Called]) -> Result<Names<'a>, NoMemory>
     ensures { IfOk result (AreCalled (map called_shown called.now)) }
 {
     let mut names = Names::new(alloc);
@@ -66,8 +65,57 @@ impl<'a> Naming<'a> {
     {
         Ok(Naming {
             providers: Names::of_providers(alloc, cloud)?,
-            aggregates: aggregate_names(alloc, called)?,
+            aggregates: names_of(alloc, called)?,
         })
+    }
+
+    /// The names of these providers, and of these aggregates.
+    pub fn of(
+        alloc: Global,
+        providers: &'a [Called],
+        aggregates: &'a [Called],
+    ) -> Result<Naming<'a>, NoMemory>
+        ensures providers { IfOk result (λ naming.
+            AreCalled (map called_shown providers.now) naming.providers) }
+        ensures aggregates { IfOk result (λ naming.
+            AreCalled (map called_shown aggregates.now) naming.aggregates) }
+    {
+        Ok(Naming {
+            providers: names_of(alloc, providers)?,
+            aggregates: names_of(alloc, aggregates)?,
+        })
+    }
+
+    /// A query with UUIDs in place of names.
+    pub fn query(&self, alloc: Global, query: &str) -> Result<String, NamesRefusal>
+        ensures text { IfOk result (λ text. (called : named.Naming) → AreNamed called self.now
+            → query_asked called query.now ≡ Ok (string_bytes text)) }
+        ensures fault { IfErr result (λ why. (called : named.Naming) → AreNamed called self.now
+            → TellsNames (query_asked called query.now) why) }
+    {
+        match query_with_ids(alloc, self, query) {
+            Ok(query) => Ok(query),
+            Err(PairFault::Name(number, fault)) => Err(NamesRefusal::Pair(number, fault)),
+            Err(PairFault::NoMemory) => Err(NamesRefusal::NoMemory),
+        }
+    }
+
+    /// A token with UUIDs in place of names, where there is one.
+    pub fn token(&self, alloc: Global, token: Option<&str>) -> Result<Option<String>, NamesRefusal>
+        ensures text { IfOk result (λ text. (called : named.Naming) → AreNamed called self.now
+            → token_asked called.providers (option_map (λ t. t.now) token.entry)
+            ≡ Ok (option_map string_bytes text)) }
+        ensures fault { IfErr result (λ why. (called : named.Naming) → AreNamed called self.now
+            → TellsNames (token_asked called.providers (option_map (λ t. t.now) token.entry)) why) }
+    {
+        let Some(token) = token else {
+            return Ok(None);
+        };
+        match token_with_ids(alloc, &self.providers, token) {
+            Ok(token) => Ok(Some(token)),
+            Err(LookupFault::Name(fault)) => Err(NamesRefusal::Token(fault)),
+            Err(LookupFault::NoMemory) => Err(NamesRefusal::NoMemory),
+        }
     }
 }
 
@@ -76,42 +124,6 @@ impl<'a> Naming<'a> {
 pub(crate) struct Texts {
     query: String,
     token: Option<String>,
-}
-
-// A query with UUIDs in place of names.
-fn read_query(alloc: Global, naming: &Naming<'_>, query: &str) -> Result<String, NamesRefusal>
-    ensures text { IfOk result (λ text. (called : named.Naming) → AreNamed called naming.now
-        → query_asked called query.now ≡ Ok (string_bytes text)) }
-    ensures fault { IfErr result (λ why. (called : named.Naming) → AreNamed called naming.now
-        → TellsNames (query_asked called query.now) why) }
-{
-    match query_with_ids(alloc, naming, query) {
-        Ok(query) => Ok(query),
-        Err(PairFault::Name(number, fault)) => Err(NamesRefusal::Pair(number, fault)),
-        Err(PairFault::NoMemory) => Err(NamesRefusal::NoMemory),
-    }
-}
-
-// A token with UUIDs in place of names, where there is one.
-fn read_token(
-    alloc: Global,
-    names: &Names<'_>,
-    token: Option<&str>,
-) -> Result<Option<String>, NamesRefusal>
-    ensures text { IfOk result (λ text. (called : called_by.Called) → AreCalled called names.now
-        → token_asked called (option_map (λ t. t.now) token.entry)
-        ≡ Ok (option_map string_bytes text)) }
-    ensures fault { IfErr result (λ why. (called : called_by.Called) → AreCalled called names.now
-        → TellsNames (token_asked called (option_map (λ t. t.now) token.entry)) why) }
-{
-    let Some(token) = token else {
-        return Ok(None);
-    };
-    match token_with_ids(alloc, names, token) {
-        Ok(token) => Ok(Some(token)),
-        Err(LookupFault::Name(fault)) => Err(NamesRefusal::Token(fault)),
-        Err(LookupFault::NoMemory) => Err(NamesRefusal::NoMemory),
-    }
 }
 
 impl Texts {
@@ -126,11 +138,11 @@ impl Texts {
         ensures fault { IfErr result (λ why. (called : named.Naming) → AreNamed called naming.now
             → TellsNames (task_with_ids called (task_of job.now)) why) }
     {
-        let query = match read_query(alloc, naming, job.query) {
+        let query = match naming.query(alloc, job.query) {
             Ok(query) => query,
             Err(why) => return Err(why),
         };
-        match read_token(alloc, &naming.providers, job.command.token()) {
+        match naming.token(alloc, job.command.token()) {
             Ok(token) => Ok(Texts { query, token }),
             Err(why) => Err(why),
         }

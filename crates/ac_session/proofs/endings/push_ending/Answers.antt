@@ -1,12 +1,16 @@
 use Rattle.std.proofs.Common.{◌∙◌, List, [], ℕ, ◌++◌, ap, subst}
 use Rattle.std.specs.Prelude.{codes}
 use Rattle.ac_base.specs.Writing.{Pushes}
-use Rattle.ac_session.proofs.Written.{faulted_told, refused_told, stopped_told}
+use Rattle.ac_session.proofs.Written.{faulted_told, refused_told, stopped_told, unnamed_told}
 use Rattle.ac_session.proofs.endings.push_ending.Goals as goal
 
 pub returns-in-Refused : goal.returns-in-Refused
 returns-in-Refused g c =
     subst (Pushes g.W.Sink.taken g.W.Sink.failures _ _ c.push_refused.result) (refused_told c.args.ending.now c.in-Refused.refusal c.in-Refused.is) c.push_refused.ensures
+
+pub returns-in-Unnamed : goal.returns-in-Unnamed
+returns-in-Unnamed g c =
+    subst (Pushes g.W.Sink.taken g.W.Sink.failures _ _ c.push_unnamed.result) (unnamed_told c.args.ending.now c.in-Unnamed.refusal c.in-Unnamed.is) c.push_unnamed.ensures
 
 pub returns-in-Faulted : goal.returns-in-Faulted
 returns-in-Faulted g c =

@@ -5,11 +5,12 @@ use Rattle.ac_base.proofs.HandedOn.{later_rise}
 use Rattle.ac_session.proofs.Written.{answers_begun, answers_given}
 use Rattle.ac_session.specs.declared.endings.AnswerFault.TheVariants as fault
 use Rattle.ac_session.specs.Held.{held_of}
+use Rattle.ac_session.specs.Turns.Named.{terms_of}
 use Rattle.ac_session.proofs.session.hand_on.Goals as goal
 
 pub returns-in-Ok-answer_next-clause-answers : goal.returns-in-Ok-answer_next-clause-answers
 returns-in-Ok-answer_next-clause-answers g c = λ given e.
-    answers_given c.args.tries c.args.version (held_of c.args.held.now) given _ (g.W.Sink.taken c.args.out) _ _ _ _ c.new.ensures.taken c.new-frame.ensures.taken c.end_gathered.result.0 _ _ _
+    answers_given c.args.terms.now.tries (terms_of c.args.terms.now) (held_of c.args.held.now) given _ (g.W.Sink.taken c.args.out) _ _ _ _ c.new.ensures.taken c.new-frame.ensures.taken c.end_gathered.result.0 _ _ _
     (c.in-Ok-answer_next.ensures.turn given e) c.end_gathered.ensures.ok c.end_gathered.ensures.part
 
 pub returns-in-Ok-answer_next-clause-failed : goal.returns-in-Ok-answer_next-clause-failed
@@ -19,7 +20,7 @@ returns-in-Ok-answer_next-clause-failed g c = λ is.
 
 pub returns-in-Err-clause-answers : goal.returns-in-Err-clause-answers
 returns-in-Err-clause-answers g c = λ given e.
-    answers_begun c.args.tries c.args.version (held_of c.args.held.now) given _ (g.W.Sink.taken c.args.out) _ _ _ _ c.new.ensures.taken c.new-frame.ensures.taken c.in-Err.fault _
+    answers_begun c.args.terms.now.tries (terms_of c.args.terms.now) (held_of c.args.held.now) given _ (g.W.Sink.taken c.args.out) _ _ _ _ c.new.ensures.taken c.new-frame.ensures.taken c.in-Err.fault _
     (c.in-Err.ensures.turn given e).answer.part c.into_inner.ensures.part c.into_inner-in-Err.ensures.part
 
 -- what rose has risen later too

@@ -4,10 +4,11 @@ use Rattle.ac_fill.specs.Filled.{filled}
 use Rattle.ac_query.specs.Shown.Queries.{asked_of}
 use Rattle.ac_session.proofs.Turned.{filled_world}
 use Rattle.ac_session.proofs.Written.{gives_weaker, stopped_behind}
-use Rattle.ac_run.specs.Answer.{fills}
+use Rattle.ac_run.specs.Answer.{fills_by}
 use Rattle.ac_run.specs.Outputs.{fill_status}
 use Rattle.ac_session.specs.Frames.{end_line}
 use Rattle.ac_session.specs.Turns.{after_fill, settles}
+use Rattle.ac_session.specs.Turns.Named.{are_named, terms_of}
 use Rattle.ac_session.proofs.turns.place_all.Goals as goal
 
 pub returns-in-Ok : goal.returns-in-Ok
@@ -31,7 +32,7 @@ pub returns-in-Err : goal.returns-in-Err
 returns-in-Err g c =
     let old = world_of c.args.cloud.now in
     let asked = asked_of c.args.query.now in
-    let placed = fills old.providers false asked None in
+    let placed = fills_by (are_named (terms_of c.args.terms.now)) old.providers false asked None in
     record {
       answer =
           gives_weaker (λ is. c.write_placements.ensures.stopped (c.in-Err.is ∙ ap Err is)) _ _ _ _ _ (Some placed)

@@ -6,6 +6,7 @@ use Rattle.ac_session.proofs.FirstPlaced.{host_refused, nothing_told, said_plain
 use Rattle.ac_session.proofs.Turned.{query_refused}
 use Rattle.ac_session.proofs.Written.{turn_weaker}
 use Rattle.ac_session.specs.Turns.{place_line, place_turn}
+use Rattle.ac_session.specs.Turns.Named.{are_named, terms_of}
 use Rattle.ac_session.proofs.turns.place.place.Goals as goal
 
 -- the query is refused
@@ -13,10 +14,10 @@ pub returns-in-Err-clause-turn : goal.returns-in-Err-clause-turn
 unfolding place_turn
 returns-in-Err-clause-turn g c =
     let all = providers_of c.args.cloud.now in
-    let say = at_host all (option_map (λ t. t.now) c.args.host) (place_line all) in
+    let say = at_host all (option_map (λ t. t.now) c.args.host) (place_line (are_named (terms_of c.args.terms.now)) all) in
     rw c.unplaced.ensures.ending
     (turn_weaker (λ no. absurd no) _ _ _ _ _ _ _ _
-    (c.refused.ensures.turn _ (query_refused c.args.version c.args.query.now c.in-Err.refusal c.in-Err.ensures.fault say None) 0 (omega arith) _ _ _ _))
+    (c.refused.ensures.turn _ (query_refused c.args.terms.now.version c.args.query.now c.in-Err.refusal c.in-Err.ensures.fault say None) 0 (omega arith) _ _ _ _))
 
 pub returns-in-Err-clause-token : goal.returns-in-Err-clause-token
 returns-in-Err-clause-token g c = nothing_told c.unplaced.result c.refused.result c.unplaced.ensures.ending c.refused.ensures.undone _
@@ -26,8 +27,8 @@ pub returns-in-Ok-find_root-clause-turn : goal.returns-in-Ok-find_root-clause-tu
 unfolding place_turn
 returns-in-Ok-find_root-clause-turn g c =
     let all = providers_of c.args.cloud.now in
-    rw (c.in-Ok.ensures.fine, ← c.in-Ok.ensures.asked, c.in-Ok-find_root.ensures.found (place_line all) (asked_of c.in-Ok.query) None, ← c.in-Ok-find_root.ensures.root)
-    (turn_weaker (λ may. (may, said_plainly all _)) _ _ _ _ _ _ _ _ c.place_first.ensures.turn)
+    rw (c.in-Ok.ensures.fine, ← c.in-Ok.ensures.asked, c.in-Ok-find_root.ensures.found (place_line (are_named (terms_of c.args.terms.now)) all) (asked_of c.in-Ok.query) None, ← c.in-Ok-find_root.ensures.root)
+    (turn_weaker (λ may. (may, said_plainly _ all _)) _ _ _ _ _ _ _ _ c.place_first.ensures.turn)
 
 -- the host is refused
 pub returns-clause-turn : goal.returns-clause-turn
@@ -37,8 +38,8 @@ returns-clause-turn g c =
     rw c.unplaced-in-Err-find_root.ensures.ending
     (turn_weaker (λ no. absurd no) _ _ _ _ _ _ _ _
     (c.refused-in-Err-find_root.ensures.turn _
-    (host_refused c.args.version c.args.query.now all (option_map (λ t. t.now) c.args.host) (asked_of c.in-Ok.query) c.in-Err-find_root.refusal c.in-Ok.ensures.fine c.in-Ok.ensures.asked
-    c.in-Err-find_root.ensures.fault (place_line all)) 0 (omega arith) _ _ _ _))
+    (host_refused c.args.terms.now.version c.args.query.now all (option_map (λ t. t.now) c.args.host) (asked_of c.in-Ok.query) c.in-Err-find_root.refusal c.in-Ok.ensures.fine c.in-Ok.ensures.asked
+    c.in-Err-find_root.ensures.fault (place_line (are_named (terms_of c.args.terms.now)) all)) 0 (omega arith) _ _ _ _))
 
 pub returns-clause-token : goal.returns-clause-token
 returns-clause-token g c = nothing_told c.unplaced-in-Err-find_root.result c.refused-in-Err-find_root.result c.unplaced-in-Err-find_root.ensures.ending c.refused-in-Err-find_root.ensures.undone _

@@ -10,6 +10,7 @@ use Rattle.std.specs.Option.{option_map, unwrap_or}
 use Rattle.ac_session.proofs.FirstPlaced.{first_found}
 use Rattle.ac_session.proofs.Written.{gives_weaker, stopped_behind}
 use Rattle.ac_session.specs.Turns.{first_at, placed_said, settles}
+use Rattle.ac_session.specs.Turns.Named.{are_named, terms_of}
 use Rattle.ac_session.proofs.turns.place.place_first.Goals as goal
 
 pub claim_first-requires-clause-list : goal.claim_first-requires-clause-list
@@ -31,7 +32,7 @@ returns-in-Err-clause-turn g c =
     let all = providers_of c.args.cloud.now in
     let asked = asked_of c.args.query.now in
     let found = first_at all asked c.args.root in
-    let said = placed_said all found in
+    let said = placed_said (are_named (terms_of c.args.terms.now)) all found in
     rw c.unplaced-in-Err.ensures.ending
     (record {
       answer =

@@ -1,7 +1,7 @@
 use Rattle.std.proofs.Common.{◌≡◌, Err, refl, subst}
 use Rattle.ac_run.specs.Wanted.Named.{TellsPair, query_with_ids}
 use Rattle.ac_run.specs.declared.wanted.named.query.PairFault.{PairFault}
-use Rattle.ac_run.proofs.wanted.named.texts.read_query.Goals as goal
+use Rattle.ac_run.proofs.wanted.named.Naming.query.Goals as goal
 
 pub returns-in-Err-Name-clause-fault : goal.returns-in-Err-Name-clause-fault
 returns-in-Err-Name-clause-fault c called are =

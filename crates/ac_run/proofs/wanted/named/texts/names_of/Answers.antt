@@ -2,7 +2,7 @@ use Rattle.std.proofs.Common.{◌≡◌, ◌∙◌, ◌++◌, ◌∷◌, ℕ, Li
 use Rattle.std.proofs.lemmas.List.{get_or-map, length-map, take_all, take_more}
 use Rattle.ac_report.specs.Called.{AreCalled, Called}
 use Rattle.ac_tables.specs.Called.{called_shown}
-use Rattle.ac_run.proofs.wanted.named.texts.aggregate_names.Goals as goal
+use Rattle.ac_run.proofs.wanted.named.texts.names_of.Goals as goal
 
 pub loop-one-preserved : goal.loop-one-preserved
 loop-one-preserved c =

@@ -1,7 +1,7 @@
 use Rattle.std.proofs.Common.{refl}
 use Rattle.ac_session.proofs.Named.{all_stays}
 use Rattle.ac_session.proofs.Written.{ends_so, turn_same}
-use Rattle.ac_session.proofs.turns.answer_question.Goals as goal
+use Rattle.ac_session.proofs.turns.answer_by_ids.Goals as goal
 
 pub returns-in-Job : goal.returns-in-Job
 returns-in-Job g c = rw c.in-Job.is (turn_same _ _ _ _ _ _ _ _ c.answer_job.ensures)
