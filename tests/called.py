@@ -12,6 +12,7 @@ from urllib.parse import quote_plus
 from cases import SOME, Case, full, tables
 from model import drawn, written
 from notation import HEADERS, provider, shown
+from sessions import UNKNOWN, drawn_lines, ended
 
 TWO = 'P1 | | VCPU total 8 | | A1 | {}\nP2 | | VCPU total 8 | | A2 | {}'
 CMP = TWO.format('cmp-1', 'cmp-2')
@@ -43,6 +44,69 @@ def refused(name, query, fault, **over):
 def bad_table(line, *rows):
     return called(f'a table of them: {line}', ['tokens', 'resources=VCPU:1'], err=f'aggregate-names: {line}\n', status=3, rows=rows)
 
+
+def asked(name, turns, cloud=CMP, rows=ZONES, **more):
+    """What a session must answer with --names: lines, each with its output and what stands behind `= `."""
+    return Case(f'names: session, {name}', ['session', '--names'], full(''.join(ended(out, end) for _, out, end in turns)),
+                given=full(''.join(line + '\n' for line, _, _ in turns)).encode(), tables=beside(cloud, rows), together=True, **more)
+
+
+SESSIONS = [
+    asked('questions', [
+        ('tokens resources=VCPU:1&in_tree=cmp-2', 'cmp-2\n', 0),
+        ('tokens resources=VCPU:1 cmp-1', 'cmp-2\n', 0),
+        ('verify resources=VCPU:1&in_tree=P2 cmp-2', 'candidate\n', 0),
+        ('claim resources=VCPU:8 cmp-1 one', 'claimed\n', 0),
+        ('claim resources=VCPU:1 cmp-1', 'no: rule 6 Sums\n', 1),
+        ('place resources=VCPU:1 two', 'cmp-2\n', 0),
+        ('place resources=VCPU:1 two', 'in use\n', 1),
+        ('release one', 'released\n', 0),
+        ('move two cmp-1', 'moved\n', 0),
+        ('fill resources=VCPU:4&member_of=az2', 'cmp-2\ncmp-2\n', 0),
+        ('release resources=VCPU:4&member_of=!az1 cmp-2', 'released\n', 0),
+        ('mark', 'marked\n', 0),
+        ('place resources=VCPU:1&member_of=in:az2,A3 at cmp-2', 'cmp-2\n', 0),
+        ('back', 'undone\n', 0),
+        ('place resources=VCPU:8', '', 1),
+        ('left cmp-2', 'resource_provider,name,resource_class,capacity,used,left\nP2,cmp-2,VCPU,8,4,4\n', 0),
+    ]),
+    asked('names that stand for nothing', [
+        ('tokens resources=VCPU:1&in_tree=x', '', '4 query: pair 2: UnknownName'),
+        ('fill resources=VCPU:1&member_of=in:az1,az3', '', '4 query: pair 2: UnknownName'),
+        ('place resources=VCPU:1&member_of=az3 one at x', '', '4 query: pair 2: UnknownName'),
+        ('claim limit=0&in_tree=x y', '', '4 query: pair 2: UnknownName'),
+        ('claim resources=VCPU:1 x', '', '5 token: UnknownName'),
+        ('release resources=VCPU:1 az1', '', '5 token: UnknownName'),
+        ('move one x', '', '5 token: UnknownName'),
+        ('move one cmp-1', 'not in use\n', 1),
+        ('claim resources=VCPU:1 P1,cmp-2', '', '5 token: WrongLength'),
+        ('claim resources=VCPU:9&limit=0 cmp-1', '', '4 query: pair 2: BadValue'),
+        ('nonsense', '', '2 ' + UNKNOWN),
+    ]),
+    asked('two of a name', [
+        ('tokens resources=VCPU:1', 'P1\nP2\n', 0),
+        ('claim resources=VCPU:1 cmp', '', '5 token: AmbiguousName'),
+        ('place resources=VCPU:1&in_tree=cmp', '', '4 query: pair 2: AmbiguousName'),
+        ('place resources=VCPU:1', 'P1\n', 0),
+    ], cloud=TWO.format('cmp', 'cmp')),
+    asked('blanks, commas and equals signs', [
+        ('tokens resources=VCPU:1&in_tree=NIC%20agent', 'NIC agent\n', 0),
+        ('claim resources=VCPU:1 NIC agent', '', '5 token: UnknownName'),
+        ('claim resources=VCPU:1 P1 agent', 'claimed\n', 0),
+        ('place resources=VCPU:8', '"=a,b"\n', 0),
+        ('release resources=VCPU:8 "=a,b"', 'released\n', 0),
+    ], cloud=TWO.format('NIC agent', '"=a,b"')),
+    asked('a line that begins as the last one does', [('place resources=VCPU:8', ' =a\n', 0), ('release resources=VCPU:8 =a', 'released\n', 0)],
+          cloud=TWO.format('=a', 'x')),
+    asked('there is no table of them', [('tokens resources=VCPU:1&in_tree=cmp-1', 'cmp-1\n', 0), ('tokens resources=VCPU:1&member_of=az1', '', '4 query: pair 2: UnknownName')],
+          rows=None),
+    Case('names: session, a table of them that is refused', ['session', '--names'], err='aggregate-names: record 2: BadUuid\n', status=3, given=b'check\n',
+         tables=beside(CMP, ('x,y',)), together=True),
+    Case('names: session, a table of them that is refused, in detail', ['session', '--names', '--detail'], err='aggregate-names: record 2: BadUuid\n'
+         '  Each record is the UUID of an aggregate and a name of it, behind the header uuid,name.\n', status=3, given=b'check\n', tables=beside(CMP, ('x,y',)), together=True),
+    Case('names: session, not asked for', ['session'], full(ended('', 4, 'query: pair 2: BadValue') + ended('P1\nP2\n', 0)),
+         given=b'tokens resources=VCPU:1&in_tree=cmp-1\ntokens resources=VCPU:1\n', tables=beside(CMP, ('x',)), together=True),
+]
 
 BY_HAND = [
     found('a provider', 'in_tree=cmp-2', 'cmp-2\n'),
@@ -177,6 +241,53 @@ def by_names(case, chance):
                    out=''.join(line(one, providers) for one in case.out.splitlines()) if lines else case.out)
 
 
+WORDS = [name for name in NAMES if name.strip() and not set(name) & set(' \t\n')] + ['=cmd', 'at']
+LINES = 'tokens', 'fill', 'place'
+
+
+def is_kept(line, told, own):
+    """Whether a line of a session may be asked by names: its fault is none of a token, and nothing of its output is a name of a provider."""
+    command, *words = line.split(' ')
+    if own and command in ('hosts', 'why', 'list', 'left', 'explain'):
+        return False
+    return 'token: BadToken' not in told and 'host: ' not in told and 'query: ' not in told and not (command == 'move' and words[1:] == ['x'])
+
+
+def turn_by(line, told, providers, aggregates, chance):
+    """A line of a session with names in place of UUIDs, and what it answers."""
+    command, *words = line.split(' ')
+    if words and '=' in words[0]:
+        words[0] = '&'.join(with_names(piece, providers, aggregates, chance) for piece in words[0].split('&'))
+    if len(words) > 1 and words[1] != 'at' and command in ('tokens', 'list', 'candidates', 'verify', 'claim', 'release', 'move'):
+        words[1] = token_by(words[1], providers, chance)
+    rows = told.splitlines(True)
+    if command in LINES:
+        rows = [row if row.startswith('= ') or row == 'in use\n' else line_by(row, providers) for row in rows]
+    return ' '.join([command, *words]), ''.join(rows)
+
+
+def line_by(row, providers):
+    """A line of a session by names, behind a blank where it begins as one that ends an answer, or with a blank."""
+    text = line(row.removesuffix('\n'), providers)
+    return ' ' + text if text[0] in '= ' else text
+
+
+def sessions_by_names(number):
+    """Random sessions with --names, and names in place of UUIDs."""
+    chance = random.Random(3)
+    for n, (made, words, drawn) in enumerate(drawn_lines(number, seed=68)):
+        own = n % 2 == 0
+        ids = [row[0] for row in csv.reader(io.StringIO(made['providers']))][1:]
+        names = dict(zip(ids, map(full, chance.sample(WORDS, len(ids))), strict=True)) if own else {}
+        rooms = dict(zip((provider(0xa0 + k) for k in range(1, 5)), chance.sample(NAMES, 4), strict=True))
+        kept = [turn_by(full(asks), full(told), alone(names), alone(rooms), chance) for asks, told in drawn if is_kept(asks, told, own)]
+        tabled = {**HEADERS, **made, 'aggregate-names': written([['uuid', 'name'], *rooms.items()])}
+        if own:
+            tabled['providers'] = providers_named(tabled['providers'], names)
+        yield Case(f'names: session, drawn {n}', ['session', '--names', *words], ''.join(told for _, told in kept),
+                   given=''.join(asks + '\n' for asks, _ in kept).encode(), tables=tabled, together=True)
+
+
 def takes_names(case):
     return case.words[0] in ('tokens', 'candidates', 'fill', 'verify', 'list', 'hosts', 'why', 'explain') and not case.words[1].startswith('-') \
         and case.tables.keys() <= HEADERS.keys()
@@ -187,4 +298,4 @@ def names_cases(program):
     chance = random.Random(1)
     folder = Case('names: their table is a folder', ['sh', '-c', 'made=$(mktemp -d) && cp examples/cloud/*.csv "$made" && mkdir "$made/aggregate-names.csv" && "$0" tokens '
                   '--names resources=VCPU:1 --tables "$made"; status=$?; rm -r "$made"; exit $status', program], err='aggregate-names: Unreadable\n', status=3)
-    return [*BY_HAND, folder, *(by_names(case, chance) for case in drawn(60, seed=65) if takes_names(case))]
+    return [*BY_HAND, *SESSIONS, *sessions_by_names(60), folder, *(by_names(case, chance) for case in drawn(60, seed=65) if takes_names(case))]

@@ -963,16 +963,21 @@ def draw_turn(chance, cloud, queries, claimed, named, marks):
     return f'{kind} {asked[1]} {names(assignment)}', ended(*said)
 
 
-def drawn_sessions(number, turns=26, seed=5):
-    """This number of sessions, each over a random cloud with a few queries."""
+def drawn_lines(number, turns=26, seed=5):
+    """This number of sessions, each over a random cloud with a few queries: tables, words, and the lines, each with what it answers."""
     chance = random.Random(seed)
-    for n in range(number):
+    for _ in range(number):
         cloud = draw_cloud(chance)
         made = tables('\n'.join(one.text() for one in cloud))
         queries, claimed, named, marks = [draw_asked(chance, cloud) for _ in range(3)], [], {}, []
         later = any(group.any_of for query, _ in queries for group in query.groups.values())
         words = ['--microversion', '1.39'] if later or chance.random() < 0.5 else []
-        drawn = [draw_turn(chance, cloud, queries, claimed, named, marks) for _ in range(turns)]
+        yield made, words, [draw_turn(chance, cloud, queries, claimed, named, marks) for _ in range(turns)]
+
+
+def drawn_sessions(number):
+    """The same as cases."""
+    for n, (made, words, drawn) in enumerate(drawn_lines(number)):
         yield session(f'drawn {n}', ''.join(line + '\n' for line, _ in drawn), ''.join(said for _, said in drawn), *words, made=made)
 
 

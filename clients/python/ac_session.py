@@ -51,13 +51,13 @@ class Answer(NamedTuple):
 
 
 class Placement(NamedTuple):
-    """A claim: the query, and the token of the allocation candidate, which has a provider's UUID for each slot."""
+    """A claim: the query, and the token of the allocation candidate, which has a provider's UUID for each slot; in a session with '--names' its name."""
     query: str
     token: str
 
     @property
     def providers(self) -> List[str]:
-        return self.token.split(',')
+        return next(csv.reader([self.token]))
 
 
 class Host(NamedTuple):
@@ -92,7 +92,11 @@ class Session:
     """A session over the tables of a folder. It ends with `close`, or with the `with` that it stands in."""
 
     def __init__(self, tables: str, *options: str, program: Optional[str] = None, change: Sequence[str] = ()):
-        """`options` are those of the command, such as '--tries', '1000000'; `change` are the lines of its `--change`.
+        """`options` are those of the command, such as '--names', or '--tries', '1000000'; `change` are the lines of its `--change`.
+
+        >>> with Session('examples/cloud', '--names') as session:
+        ...     session.place('resources=VCPU:2&in_tree=compute-02').providers
+        ['compute-02']
 
         >>> with Session('examples/cloud', change=['remove compute-02']) as session:
         ...     [host.name for host in session.hosts('resources=VCPU:2') if host.fits]

@@ -1,5 +1,5 @@
 -- Questions in which names stand in place of UUIDs, and what is known of names from turn to turn.
-use Rattle.std.proofs.Common.{◌≡◌, ◌∙◌, ℕ, List, [], ◌∷◌, Option, Some, None, map, refl, sym, ap, subst}
+use Rattle.std.proofs.Common.{◌≡◌, ◌∙◌, ℕ, List, Option, Some, None, refl, sym, ap, subst}
 use denote.Ref.{Bor}
 use Rattle.std.specs.Prelude.{Result, Ok, Err, IfOk, IfSome}
 use Rattle.std.proofs.lemmas.Simd.{map-map}
@@ -8,7 +8,7 @@ use Rattle.ac_cloud.specs.Amounts.{with_amounts}
 use Rattle.ac_cloud.specs.World.{Provider, UsedInventory, World}
 use Rattle.ac_report.specs.Called.{AreCalled, called_of, providers_called}
 use Rattle.ac_run.specs.Naming.{TellsNames, naming_in, token_asked}
-use Rattle.ac_run.specs.Wanted.Named.{AreNamed, Naming, and_then, mapped}
+use Rattle.ac_run.specs.Wanted.Named.{and_then, mapped}
 use Rattle.ac_run.specs.declared.refusal.NamesRefusal.{NamesRefusal}
 use Rattle.ac_run.specs.declared.refusal.NamesRefusal.TheVariants as names
 use Rattle.ac_session.specs.Questions.{Asked, nothing}

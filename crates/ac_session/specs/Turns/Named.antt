@@ -1,5 +1,5 @@
 -- Names in place of UUIDs in what a line asks.
-use Rattle.std.specs.Prelude.{ℕ, Bool, List, [], Option, Some, None, Result, Ok, map, IfSome, ◌≡◌}
+use Rattle.std.specs.Prelude.{ℕ, Bool, List, Option, Some, None, Result, Ok, map, IfSome, ◌≡◌}
 use Rattle.std.specs.Option.{is_some, option_map, unwrap_or}
 use Rattle.ac_cloud.specs.World.{World}
 use Rattle.ac_query.specs.declared.version.Version.{Version}
@@ -8,7 +8,7 @@ use Rattle.ac_report.specs.Called.{providers_called}
 use Rattle.ac_run.specs.Tasks.{Task, token_in}
 use Rattle.ac_run.specs.Wanted.Named.{AreNamed, Naming, and_then, mapped}
 use Rattle.ac_run.specs.declared.refusal.NamesRefusal.{NamesRefusal}
-use Rattle.ac_session.specs.Questions.{Asked, Text, job, fill, place, claim, release, release_name, move, mark, back, usages, left_at, help, nothing, unknown, wrong_number}
+use Rattle.ac_session.specs.Questions.{Asked, Text, job, fill, place, claim, release, move}
 use Rattle.ac_session.specs.declared.turns.terms.ByNames as rust_names
 use Rattle.ac_session.specs.declared.turns.terms.Directory as rust_directory
 use Rattle.ac_session.specs.declared.turns.terms.Terms as rust

@@ -25,7 +25,7 @@ same_table (Some names) = refl
 pub returns-in-Ok-clause-ok : goal.returns-in-Ok-clause-ok
 returns-in-Ok-clause-ok g c =
     let Says : Option (List ℕ) → Held → Type 0 = λ table held.
-        OnOk c.answer_lines.result.0 ((q : List ℕ) → left g.Q.Feed.remaining c.args.lines.now ≡ Some q → length q < most_passed
-        → WithStops c.args.tries (terms_with c.args.version table) held q (Appends (g.W.Sink.taken c.args.out) (g.W.Sink.taken c.answer_lines.result.1))) in
+    OnOk c.answer_lines.result.0 ((q : List ℕ) → left g.Q.Feed.remaining c.args.lines.now ≡ Some q → length q < most_passed
+    → WithStops c.args.tries (terms_with c.args.version table) held q (Appends (g.W.Sink.taken c.args.out) (g.W.Sink.taken c.answer_lines.result.1))) in
     let table = same_table c.as_ref.result ∙ ap (option_map (λ (n : ByNames). n.table.now)) c.as_ref.ensures.value ∙ c.in-Ok.ensures.table in
     subst (λ table. Says table (unnamed (world_of c.args.cloud))) table (subst (Says (option_map (λ n. n.now.table.now) c.as_ref.result)) c.new-held.ensures c.answer_lines.ensures.ok)

@@ -7,8 +7,7 @@ use Rattle.ac_session.specs.Questions.{Asked, asked_in}
 use Rattle.ac_session.specs.Standing.{TakesTurn}
 use Rattle.ac_session.specs.Tries.{ToldMayStop}
 use Rattle.ac_session.specs.Turns.{turn_told}
-use Rattle.ac_session.specs.Turns.Named.{asked_by_table, asked_told, asked_with_ids, terms_of}
-use Rattle.ac_session.proofs.turns.answer_by_names.Given as given
+use Rattle.ac_session.specs.Turns.Named.{asked_by_table, asked_told, terms_of}
 use Rattle.ac_session.proofs.turns.answer_by_names.Goals as goal
 
 pub returns-in-Ok : goal.returns-in-Ok

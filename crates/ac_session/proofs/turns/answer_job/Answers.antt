@@ -1,4 +1,4 @@
-use Rattle.std.proofs.Common.{◌≡◌, ◌∙◌, ℕ, Bool, List, Option, [], Some, ap, arith, subst, sym}
+use Rattle.std.proofs.Common.{◌∙◌, ℕ, Bool, List, Option, [], Some, ap, arith, subst, sym}
 use Rattle.std.specs.Option.{is_some}
 use Rattle.ac_cloud.specs.Cloud.CloudWorld.{world_of}
 use Rattle.ac_run.specs.Answer.{Outcome, answer_in}

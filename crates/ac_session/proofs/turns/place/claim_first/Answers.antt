@@ -1,4 +1,4 @@
-use Rattle.std.proofs.Common.{◌≡◌, ◌∙◌, ◌++◌, Bool, ℕ, List, Some, ap, refl, subst}
+use Rattle.std.proofs.Common.{◌≡◌, ◌∙◌, Bool, ℕ, List, Some, ap, refl, subst}
 use Rattle.std.specs.Io.KnownBytes.{Appends}
 use Rattle.ac_cloud.specs.Cloud.CloudWorld.{providers_of, world_of}
 use Rattle.ac_query.specs.Shown.Queries.{asked_of}
