@@ -9,7 +9,7 @@ from collections import Counter
 from dataclasses import replace
 from urllib.parse import quote_plus
 
-from cases import SOME, Case, full, tables
+from cases import CAPACITY_HEAD, SOME, Case, full, tables
 from model import drawn, written
 from notation import HEADERS, provider, shown
 from sessions import UNKNOWN, drawn_lines, ended
@@ -108,6 +108,34 @@ SESSIONS = [
          given=b'tokens resources=VCPU:1&in_tree=cmp-1\ntokens resources=VCPU:1\n', tables=beside(CMP, ('x',)), together=True),
 ]
 
+def flavors(name, table, *rows, cloud=CMP, words=(), **over):
+    """What `capacity` must answer with --names over a table of flavors."""
+    return Case(f'names: flavors, {name}', ['capacity', '--names', *words], CAPACITY_HEAD + ''.join(row + '\n' for row in rows) if rows else '',
+                tables={**beside(cloud, ZONES), 'flavors': table if isinstance(table, bytes) else full(table)}, together=True, **over)
+
+
+def bad_flavors(line, table, more='', **over):
+    return flavors(line + (more and ', in detail'), table, err=f'flavors: {line}\n{more}', status=4, words=['--detail'] if more else [], **over)
+
+
+FLAVORS = [
+    flavors('of an aggregate, of a provider, of all', 'flavor,query\none,resources=VCPU:4&member_of=az2\ntwo,resources=VCPU:4&in_tree=cmp-1\nall,resources=VCPU:8\n',
+            'one,1,2,2,1,VCPU,1', 'two,1,2,2,1,VCPU,1', 'all,2,2,2,1,VCPU,2'),
+    flavors('by UUIDs', 'flavor,query\none,resources=VCPU:4&member_of=A2&in_tree=P2\n', 'one,1,2,2,1,VCPU,1'),
+    flavors('other columns, quotes', 'id,wanted,query,flavor\n7,3,"resources=VCPU:8&member_of=in:az2,A3","a,""b"""\n,,resources=VCPU:8,c\n',
+            '"a,""b""",1,1,1,3,VCPU,1', 'c,2,2,2,1,VCPU,2', status=1),
+    replace(flavors('as metrics', 'flavor,query\none,resources=VCPU:4&member_of=az2\n', words=['--prometheus'], has=('ac_flavor_hosts{flavor="one"} 1\n',)), out=SOME),
+    bad_flavors('record 3: UnknownName', 'flavor,query\na,resources=VCPU:1\nb,resources=VCPU:1&member_of=az3\n'),
+    bad_flavors('record 2: UnknownName', 'flavor,query\na,resources=VCPU:1&in_tree=az1\n',
+                '  No provider has this name (in_tree), or no aggregate (member_of): their names stand in aggregate-names.csv.\n'),
+    bad_flavors('record 2: AmbiguousName', 'flavor,query\na,resources=VCPU:1&in_tree=cmp\n', '  Several have this name; write the UUID of one.\n', cloud=TWO.format('cmp', 'cmp')),
+    bad_flavors('record 3: UnknownName', 'flavor,query\na,resources=VCPU:0\nb,resources=VCPU:1&in_tree=x\n'),
+    bad_flavors('record 2: BadQuery', 'flavor,query\na,resources=VCPU:0&in_tree=cmp-1\n', 'query: pair 1: BadValue\n'),
+    bad_flavors('record 1: MissingColumn', 'flavor,wanted\na,1\n'),
+    bad_flavors('record 3: Width', 'flavor,query\na,resources=VCPU:1&in_tree=x\nb\n'),
+    bad_flavors('record 2: BadQuery', b'flavor,query\na,resources=VCPU:1\xff\n'),
+]
+
 BY_HAND = [
     found('a provider', 'in_tree=cmp-2', 'cmp-2\n'),
     found('a provider by its UUID', 'in_tree=P2', 'cmp-2\n'),
@@ -167,7 +195,6 @@ BY_HAND = [
     Case('names: not asked for, their table is not read', ['tokens', 'resources=VCPU:1'], full('P1\nP2\n'), tables=beside(CMP, ('x',)), together=True),
     Case('names: not asked for, none is read', ['tokens', 'resources=VCPU:1&in_tree=cmp-1'], err='query: pair 2: BadValue\n', status=4, tables=beside(CMP, ZONES), together=True),
     Case('names: a table for each option', ['tokens', '--names', 'resources=VCPU:1&in_tree=cmp-1'], 'cmp-1\n', tables=tables(CMP)),
-    Case('names: of capacity', ['capacity', '--names'], '', SOME, 2, tables={**tables(CMP), 'flavors': 'flavor,query\n'}),
 ]
 
 
@@ -298,4 +325,4 @@ def names_cases(program):
     chance = random.Random(1)
     folder = Case('names: their table is a folder', ['sh', '-c', 'made=$(mktemp -d) && cp examples/cloud/*.csv "$made" && mkdir "$made/aggregate-names.csv" && "$0" tokens '
                   '--names resources=VCPU:1 --tables "$made"; status=$?; rm -r "$made"; exit $status', program], err='aggregate-names: Unreadable\n', status=3)
-    return [*BY_HAND, *SESSIONS, *sessions_by_names(60), folder, *(by_names(case, chance) for case in drawn(60, seed=65) if takes_names(case))]
+    return [*BY_HAND, *SESSIONS, *FLAVORS, *sessions_by_names(60), folder, *(by_names(case, chance) for case in drawn(60, seed=65) if takes_names(case))]
