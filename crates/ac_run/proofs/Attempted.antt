@@ -20,8 +20,7 @@ use Rattle.ac_run.specs.Feeds.{Bytes, TellBytes, too_large}
 use Rattle.ac_run.specs.Wanted.Given.{tables_in, token_refusal}
 use Rattle.ac_run.specs.Comparing.{answer_refused}
 use Rattle.ac_run.specs.Lines.{answer_line, host_line, memory_line, names_line}
-use Rattle.ac_run.specs.Naming.{ExplainsNames, TellsNames, names_refused, query_asked, task_asked, task_told, task_with_ids}
-use Rattle.ac_run.specs.Wanted.Named.{Naming}
+use Rattle.ac_run.specs.Naming.{ExplainsNames, TellsNames, names_refused, task_asked, task_told, task_with_ids}
 use Rattle.ac_report.specs.Called.{Called, providers_called}
 use Rattle.ac_tables.specs.Called.{called_said}
 use Rattle.ac_tables.specs.Tables.Rows.{records_of}
@@ -336,6 +335,7 @@ module _ (task : Task) (world : World) where
   names_why names.TooLarge is = names_said names.TooLarge (omega arith) (omega arith) is
   names_why (names.Record row kind) is = names_said (names.Record row kind) (omega arith) (omega arith) is
   names_why (names.Pair n f) is = names_said (names.Pair n f) (omega arith) (omega arith) is
+  names_why (names.Flavor row f) is = names_said (names.Flavor row f) (omega arith) (omega arith) is
   names_why (names.Token f) is = names_said (names.Token f) (omega arith) (omega arith) is
   names_why names.NoMemory is = inr (ap (λ l. memory_line ++ l) (nothing_behind task.detail) ∙ append-nil memory_line, refl)
 
@@ -353,6 +353,7 @@ module _ (task : Task) (world : World) where
   table_told table names.TooLarge named h = rw (named, h) refl
   table_told table (names.Record row kind) named h = rw (named, h) refl
   table_told table (names.Pair n f) named h = rw (named, h) refl
+  table_told table (names.Flavor row f) named h = rw (named, h) refl
   table_told table (names.Token f) named h = rw (named, h) refl
 
   -- one that isn't, and says this
@@ -379,6 +380,7 @@ tells_on found needs names.Unreadable on tells = on tells
 tells_on found needs names.TooLarge on tells = on tells
 tells_on found needs (names.Record row kind) on tells = on tells
 tells_on found needs (names.Pair n f) on tells = on tells
+tells_on found needs (names.Flavor row f) on tells = on tells
 tells_on found needs (names.Token f) on tells = on tells
 
 -- ---- an answer over a world

@@ -12,6 +12,13 @@ module _ {T X E : Type 0} (find : T → Result X E) where
   abbrev pub found_behind : List X → List T → Result (List X) E
   found_behind have left = mapped (λ rest. have ++ rest) (each_found find left)
 
+  mapped_same : (found : Result (List X) E) → mapped (λ rest. rest) found ≡ found
+  mapped_same (Ok rest) = refl
+  mapped_same (Err e) = refl
+
+  pub nothing_yet : (left : List T) → found_behind [] left ≡ each_found find left
+  nothing_yet left = mapped_same (each_found find left)
+
   pub all_found : (have : List X) → found_behind have [] ≡ Ok have
   all_found have = ap Ok (append-nil have)
 

@@ -9,6 +9,7 @@ pub mod FaultsTold
 pub mod StatedRequests
 pub mod HostsThere
 pub mod QueriesRead
+pub mod FlavorsNamed
 pub mod FlavorsRead
 pub mod Comparing
 pub mod SplitAt

@@ -124,6 +124,8 @@ changes_remedy _ = []
 unfoldable pub names_remedy : NamesRefusal → List ℕ
 names_remedy (names.Record row kind) = codes "  Each record is the UUID of an aggregate and a name of it, behind the header uuid,name.\n"
 names_remedy (names.Pair n fault.Unknown) = codes "  No provider has this name (in_tree), or no aggregate (member_of): their names stand in aggregate-names.csv.\n"
+names_remedy (names.Flavor n fault.Unknown) = codes "  No provider has this name (in_tree), or no aggregate (member_of): their names stand in aggregate-names.csv.\n"
+names_remedy (names.Flavor n fault.Ambiguous) = codes "  Several have this name; write the UUID of one.\n"
 names_remedy (names.Token fault.Unknown) = codes "  No provider has this name.\n"
 names_remedy (names.Pair n fault.Ambiguous) = codes "  Several have this name; write the UUID of one.\n"
 names_remedy (names.Token fault.Ambiguous) = codes "  Several have this name; write the UUID of one.\n"

@@ -93,5 +93,6 @@ names_line names.Unreadable = codes "aggregate-names: Unreadable\n"
 names_line names.TooLarge = codes "aggregate-names: TooLarge\n"
 names_line (names.Record row k) = called_line row (kind_name k)
 names_line (names.Pair n f) = pair_line n (name_fault f)
+names_line (names.Flavor row f) = line_at (codes "flavors") row (name_fault f)
 names_line (names.Token f) = said (codes "token: " ∷ name_fault f ∷ newline ∷ [])
 names_line names.NoMemory = memory_line

@@ -4,8 +4,9 @@ use Rattle.std.specs.Option.{option_map}
 use Rattle.std.specs.Result.{result_map_both, result_unwrap_or}
 use Rattle.ac_cloud.specs.World.{World}
 use Rattle.ac_report.specs.Called.{Called, providers_called}
-use Rattle.ac_run.specs.Tasks.{Command, Task, candidates, list, token_in, tokens, verify}
+use Rattle.ac_run.specs.Tasks.{Command, Task, candidates, capacity, flavors_in, list, token_in, tokens, verify}
 use Rattle.ac_run.specs.Wanted.Named.{Naming, and_then, mapped, query_with_ids, token_with_ids}
+use Rattle.ac_run.specs.Wanted.NamedFlavors.{table_with_ids}
 use Rattle.ac_run.specs.declared.refusal.NamesRefusal.{NamesRefusal}
 use Rattle.ac_run.specs.declared.refusal.NamesRefusal.TheVariants as names
 use Rattle.ac_run.specs.declared.wanted.named.texts.Texts.{Texts}
@@ -31,20 +32,35 @@ with_token (list after at traits) token = list token at traits
 with_token (verify old) (Some token) = verify token
 with_token command token = command
 
+-- a command with this table of flavors, where it has one
+abbrev pub with_flavors : Command → Option (List ℕ) → Command
+with_flavors (capacity old metrics) (Some flavors) = capacity flavors metrics
+with_flavors command flavors = command
+
 -- a token with UUIDs in place of names, where there is one
 abbrev pub token_asked : Called → Option (List ℕ) → Result (Option (List ℕ)) NamesRefusal
 token_asked called None = Ok None
 token_asked called (Some text) = result_map_both Some names.Token (token_with_ids called text)
 
+-- a table of flavors with UUIDs in place of names, where there is one
+abbrev pub flavors_asked : Naming → Option (List ℕ) → Result (Option (List ℕ)) NamesRefusal
+flavors_asked naming None = Ok None
+flavors_asked naming (Some text) = result_map_both Some (λ f. names.Flavor f.0 f.1) (table_with_ids naming text)
+
 -- a query with UUIDs in place of names
 abbrev pub query_asked : Naming → List ℕ → Result (List ℕ) NamesRefusal
 query_asked naming query = result_map_both (λ text. text) (λ f. names.Pair f.0 f.1) (query_with_ids naming query)
 
--- a task with both
+-- a task with these texts in place of its own, where it has them
+abbrev pub with_texts : Task → List ℕ → Option (List ℕ) → Option (List ℕ) → Task
+with_texts task query token flavors = record task { query = query; command = with_flavors (with_token task.command token) flavors }
+
+-- a task with UUIDs in place of names
 abbrev pub task_with_ids : Naming → Task → Result Task NamesRefusal
 task_with_ids naming task =
     and_then (query_asked naming task.query) (λ query.
-    mapped (λ token. record task { query = query; command = with_token task.command token }) (token_asked naming.providers (token_in task.command)))
+    and_then (token_asked naming.providers (token_in task.command)) (λ token.
+    mapped (with_texts task query token) (flavors_asked naming (flavors_in task.command))))
 
 -- unless the table of names is refused
 abbrev pub past_table : Option NamesRefusal → Result Task NamesRefusal → Result Task NamesRefusal
@@ -67,7 +83,7 @@ task_told task world = result_unwrap_or (task_asked task world) task
 
 -- a task with these texts
 abbrev pub task_by : Task → Texts → Task
-task_by task texts = record task { query = string_bytes texts.query; command = with_token task.command (option_map string_bytes texts.token) }
+task_by task texts = with_texts task (string_bytes texts.query) (option_map string_bytes texts.token) (option_map (λ t. t.items) texts.flavors)
 
 -- why a table is refused is told, or a growth was refused
 abbrev pub ExplainsNames : Option NamesRefusal → NamesRefusal → Type 0

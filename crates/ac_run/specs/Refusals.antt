@@ -60,6 +60,7 @@ status_of_asked ask.NoMemory = 7
 
 abbrev pub status_of_names : NamesRefusal → ℕ
 status_of_names (names.Pair n f) = 4
+status_of_names (names.Flavor n f) = 4
 status_of_names (names.Token f) = 5
 status_of_names names.NoMemory = 7
 status_of_names _ = 3

@@ -58,6 +58,11 @@ host_in (list after at traits) = at
 host_in (why host) = Some host
 host_in _ = None
 
+-- the table of flavors
+abbrev pub flavors_in : Command → Option (List ℕ)
+flavors_in (capacity flavors metrics) = Some flavors
+flavors_in _ = None
+
 -- ---- what a job asks
 
 abbrev pub command_shown : rust.Command → Command

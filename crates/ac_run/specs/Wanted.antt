@@ -2,6 +2,7 @@
 pub mod Given
 pub mod Mark
 pub mod Named
+pub mod NamedFlavors
 use Rattle.std.specs.Prelude.{◌≡◌, ◌<◌, ℕ, Bool, IfSome, true, List, length, map, Option, Some, None, Result, Err, ⊤}
 use Rattle.std.specs.List.{All}
 use Rattle.std.specs.Option.{option_map}

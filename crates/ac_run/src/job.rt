@@ -88,8 +88,8 @@ pub struct Job<'a> {
 
 impl<'a> Command<'a> {
     ghost use Rattle.std.specs.Prelude.{◌≡◌, option_map};
-    ghost use Rattle.ac_run.specs.Naming.{with_token};
-    ghost use Rattle.ac_run.specs.Tasks.{command_shown, host_in, token_in};
+    ghost use Rattle.ac_run.specs.Naming.{with_flavors, with_token};
+    ghost use Rattle.ac_run.specs.Tasks.{command_shown, flavors_in, host_in, token_in};
 
     /// The token to judge, or to begin after.
     pub fn token(self) -> Option<&'a str>
@@ -128,6 +128,33 @@ impl<'a> Command<'a> {
                 after,
             ) => Command::List { after, at, traits },
             (Command::Verify { token: _ }, Some(token)) => Command::Verify { token },
+            (command, _) => command,
+        }
+    }
+
+    /// The table of flavors, where it has one.
+    pub(crate) fn flavors(self) -> Option<&'a [u8]>
+        ensures { option_map (λ t. t.now) result ≡ flavors_in (command_shown self.entry) }
+    {
+        match self {
+            Command::Capacity { flavors, .. } => Some(flavors),
+            _ => None,
+        }
+    }
+
+    /// The same, with this table of flavors, where it has one.
+    pub(crate) fn with_flavors(self, flavors: Option<&'a [u8]>) -> Command<'a>
+        ensures { command_shown result
+            ≡ with_flavors (command_shown self.entry) (option_map (λ t. t.now) flavors.entry) }
+    {
+        match (self, flavors) {
+            (
+                Command::Capacity {
+                    flavors: _,
+                    metrics,
+                },
+                Some(flavors),
+            ) => { Command::Capacity { flavors, metrics } }
             (command, _) => command,
         }
     }

@@ -104,6 +104,8 @@ pub enum NamesRefusal {
     Record { row: u32, kind: TableKind },
     /// Why a name in the pair of this number stands for nothing. Pairs are numbered from 1.
     Pair(u32, NameFault),
+    /// Why a name in the query of a flavor stands for nothing, by the record of the flavor.
+    Flavor(u32, NameFault),
     /// Why a name of the token stands for no provider.
     Token(NameFault),
     /// A growth was refused.

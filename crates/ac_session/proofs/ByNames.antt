@@ -22,6 +22,7 @@ told_err found names.Unreadable isnt tells = tells
 told_err found names.TooLarge isnt tells = tells
 told_err found (names.Record row kind) isnt tells = tells
 told_err found (names.Pair n f) isnt tells = tells
+told_err found (names.Flavor row f) isnt tells = tells
 told_err found (names.Token f) isnt tells = tells
 told_err found names.NoMemory isnt tells = absurd (isnt refl)
 

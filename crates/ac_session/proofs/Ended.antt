@@ -298,6 +298,7 @@ table_ends reason three names.Unreadable h = (0, omega arith, refl)
 table_ends reason three names.TooLarge h = (0, omega arith, refl)
 table_ends reason three (names.Record row kind) h = (0, omega arith, refl)
 table_ends reason three (names.Pair n f) h = absurd (omega (arith, three (names.Pair n f) h))
+table_ends reason three (names.Flavor row f) h = absurd (omega (arith, three (names.Flavor row f) h))
 table_ends reason three (names.Token f) h = absurd (omega (arith, three (names.Token f) h))
 table_ends reason three names.NoMemory h = (1, omega arith, refl)
 
@@ -328,6 +329,7 @@ module _ {R : Type 0} (remaining : R → Option (List ℕ)) (failures : R → �
   table_why names.TooLarge is = table_refused names.TooLarge (omega arith) (omega arith) is
   table_why (names.Record row kind) is = table_refused (names.Record row kind) (omega arith) (omega arith) is
   table_why (names.Pair n f) is = table_refused (names.Pair n f) (omega arith) (omega arith) is
+  table_why (names.Flavor row f) is = table_refused (names.Flavor row f) (omega arith) (omega arith) is
   table_why (names.Token f) is = table_refused (names.Token f) (omega arith) (omega arith) is
   table_why names.NoMemory is = inr (inr (ap (λ l. memory_line ++ l) (nothing_behind detail) ∙ append-nil memory_line, refl))
 

@@ -215,5 +215,7 @@ names_one names.Unreadable = line_end {a = codes "aggregate-names: Unreadable"} 
 names_one names.TooLarge = line_end {a = codes "aggregate-names: TooLarge"} (plain refl)
 names_one (names.Record row k) = called_one row (kind_name k) (plain_kind k)
 names_one (names.Pair n f) = pair_one n (name_fault f) (plain_name f)
+names_one (names.Flavor row f) =
+    line_behind {a = codes "flavors"} (plain refl) (line_behind {a = codes ": record "} (plain refl) (line_behind (plain_number row) (line_behind {a = codes ": "} (plain refl) (line_behind (plain_name f) (line_end {a = []} (plain refl))))))
 names_one (names.Token f) = line_behind {a = codes "token: "} (plain refl) (line_behind (plain_name f) (line_end {a = []} (plain refl)))
 names_one names.NoMemory = line_end {a = codes "out of memory"} (plain refl)

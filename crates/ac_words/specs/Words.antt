@@ -133,7 +133,7 @@ why_app = with_format (with_search (with_rule (query_app (codes "why")) (word_ru
 
 -- a command with a table of flavors
 abbrev pub capacity_app : App
-capacity_app = with_format (with_rule (with_tries (with_rule (new_app (codes "capacity")) (word_rule (codes "flavors")))) (flag_rule (codes "prometheus")))
+capacity_app = with_format (with_rule (with_search (with_rule (new_app (codes "capacity")) (word_rule (codes "flavors")))) (flag_rule (codes "prometheus")))
 
 -- a query, with an answer of the service
 abbrev pub compare_app : App

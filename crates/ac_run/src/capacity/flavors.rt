@@ -17,7 +17,7 @@ use ac_tables::{BesideFault, Flavor, read_flavors};
 use std::alloc::Global;
 
 /// The most bytes of a table of flavors: 64 MiB, as of every table.
-const MOST_BYTES: usize = 67_108_864;
+pub(crate) const MOST_BYTES: usize = 67_108_864;
 
 /// A flavor whose query is read.
 #[derive(Drop)]

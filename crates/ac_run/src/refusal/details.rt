@@ -127,11 +127,13 @@ fn names_remedy(refusal: NamesRefusal) -> &'static [u8]
         NamesRefusal::Record { .. } => {
             b"  Each record is the UUID of an aggregate and a name of it, behind the header uuid,name.\n"
         }
-        NamesRefusal::Pair(_, NameFault::Unknown) => {
+        NamesRefusal::Pair(_, NameFault::Unknown) | NamesRefusal::Flavor(_, NameFault::Unknown) => {
             b"  No provider has this name (in_tree), or no aggregate (member_of): their names stand in aggregate-names.csv.\n"
         }
         NamesRefusal::Token(NameFault::Unknown) => b"  No provider has this name.\n",
-        NamesRefusal::Pair(_, NameFault::Ambiguous) | NamesRefusal::Token(NameFault::Ambiguous) => {
+        NamesRefusal::Pair(_, NameFault::Ambiguous)
+        | NamesRefusal::Flavor(_, NameFault::Ambiguous)
+        | NamesRefusal::Token(NameFault::Ambiguous) => {
             b"  Several have this name; write the UUID of one.\n"
         }
         NamesRefusal::Unreadable | NamesRefusal::TooLarge | NamesRefusal::NoMemory => b"",

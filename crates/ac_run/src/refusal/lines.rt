@@ -244,6 +244,7 @@ pub fn push_names_line<E: Sink>(err: &mut E, refusal: NamesRefusal) -> Result<()
         NamesRefusal::TooLarge => push_whole(err, b"aggregate-names: TooLarge\n"),
         NamesRefusal::Record { row, kind } => { push_called_line(err, row, kind.name().as_bytes()) }
         NamesRefusal::Pair(number, fault) => push_pair_line(err, number, name_fault(fault)),
+        NamesRefusal::Flavor(row, fault) => push_line_at(err, b"flavors", row, name_fault(fault)),
         NamesRefusal::Token(fault) => push_pieces(err, &[b"token: ", name_fault(fault), b"\n"]),
         NamesRefusal::NoMemory => push_whole(err, b"out of memory\n"),
     }
@@ -298,7 +299,7 @@ pub fn names_status(refusal: NamesRefusal) -> u8
     ensures { result ≡ status_of_names refusal }
 {
     match refusal {
-        NamesRefusal::Pair(..) => 4,
+        NamesRefusal::Pair(..) | NamesRefusal::Flavor(..) => 4,
         NamesRefusal::Token(_) => 5,
         NamesRefusal::NoMemory => 7,
         NamesRefusal::Unreadable | NamesRefusal::TooLarge | NamesRefusal::Record { .. } => 3,

@@ -5,6 +5,7 @@ ghost use Rattle.ac_report.specs.Called.{AreCalled, Called};
 ghost use Rattle.ac_run.specs.Wanted.Named.{TellsName, ids_each, ids_listed};
 ghost use Rattle.ac_run.specs.declared.wanted.named.LookupFault.TheVariants.{NoMemory as refused};
 
+pub(crate) mod flavors;
 pub(crate) mod query;
 pub(crate) mod texts;
 pub(crate) mod token;

@@ -471,7 +471,7 @@ fn capacity<'a>(alloc: Global) -> Result<Command<'a>, AllocError>
         "FLAVORS",
         "A table of flavors: the columns flavor and query, and wanted if it is there (CSV)",
     ))?;
-    let command = add_tries(alloc, command)?;
+    let command = add_search(alloc, command)?;
     let command = command.arg(flag(
         alloc,
         "prometheus",

@@ -2,13 +2,14 @@
 ghost use Rattle.std.specs.Prelude.{◌≡◌, IfErr, IfOk, None, OnOk, Ok, map, option_map, string_bytes};
 ghost use Rattle.ac_cloud.specs.Cloud.CloudWorld.{providers_of};
 ghost use Rattle.ac_report.specs.Called.{AreCalled, providers_called};
-ghost use Rattle.ac_run.specs.Naming.{ExplainsNames, TellsNames, names_refused, query_asked, task_by, task_with_ids, token_asked};
+ghost use Rattle.ac_run.specs.Naming.{ExplainsNames, TellsNames, flavors_asked, names_refused, query_asked, task_by, task_with_ids, token_asked};
 ghost use Rattle.ac_run.specs.Tasks.{task_of};
 ghost use Rattle.ac_run.specs.Wanted.Named as named;
 ghost use Rattle.ac_run.specs.Wanted.Named.{AreNamed};
 ghost use Rattle.ac_tables.specs.Called.{called_said, called_shown};
 ghost use Rattle.ac_tables.specs.Tables.Rows.{records_of};
 
+use super::flavors::table_with_ids;
 use super::query::{PairFault, query_with_ids};
 use super::token::token_with_ids;
 use super::{LookupFault, Naming};
@@ -100,6 +101,24 @@ impl<'a> Naming<'a> {
         }
     }
 
+    // A table of flavors with UUIDs in place of names, where there is one.
+    fn flavors(&self, alloc: Global, text: Option<&[u8]>) -> Result<Option<Vec<u8>>, NamesRefusal>
+        ensures text { IfOk result (λ table. (called : named.Naming) → AreNamed called self.now
+            → flavors_asked called (option_map (λ t. t.now) text.entry)
+            ≡ Ok (option_map (λ t. t.items) table)) }
+        ensures fault { IfErr result (λ why. (called : named.Naming) → AreNamed called self.now
+            → TellsNames (flavors_asked called (option_map (λ t. t.now) text.entry)) why) }
+    {
+        let Some(text) = text else {
+            return Ok(None);
+        };
+        match table_with_ids(alloc, self, text) {
+            Ok(table) => Ok(Some(table)),
+            Err(PairFault::Name(row, fault)) => Err(NamesRefusal::Flavor(row, fault)),
+            Err(PairFault::NoMemory) => Err(NamesRefusal::NoMemory),
+        }
+    }
+
     /// A token with UUIDs in place of names, where there is one.
     pub fn token(&self, alloc: Global, token: Option<&str>) -> Result<Option<String>, NamesRefusal>
         ensures text { IfOk result (λ text. (called : named.Naming) → AreNamed called self.now
@@ -119,11 +138,12 @@ impl<'a> Naming<'a> {
     }
 }
 
-/// The query of a job, and its token, where it has one.
+/// The query of a job, its token, and its table of flavors, where it has them.
 #[derive(Drop)]
 pub(crate) struct Texts {
     query: String,
     token: Option<String>,
+    flavors: Option<Vec<u8>>,
 }
 
 impl Texts {
@@ -142,8 +162,16 @@ impl Texts {
             Ok(query) => query,
             Err(why) => return Err(why),
         };
-        match naming.token(alloc, job.command.token()) {
-            Ok(token) => Ok(Texts { query, token }),
+        let token = match naming.token(alloc, job.command.token()) {
+            Ok(token) => token,
+            Err(why) => return Err(why),
+        };
+        match naming.flavors(alloc, job.command.flavors()) {
+            Ok(flavors) => Ok(Texts {
+                query,
+                token,
+                flavors,
+            }),
             Err(why) => Err(why),
         }
     }
@@ -153,7 +181,10 @@ impl Texts {
         ensures { task_of result ≡ task_by (task_of job.now) self.now }
     {
         Job {
-            command: job.command.with_token(self.token.as_deref()),
+            command: job
+                .command
+                .with_token(self.token.as_deref())
+                .with_flavors(self.flavors.as_deref()),
             query: self.query.as_str(),
             ..*job
         }
