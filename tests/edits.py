@@ -1,5 +1,5 @@
 #!/usr/bin/env python3
-"""tests/edits.py [--all] [--anew] [--until SECONDS] [--base REVISION] [--crates FOLDER] [CRATE..]: tries the must-fail edits of each crate: wrong bodies that
+"""tests/edits.py [--all] [--anew] [--until SECONDS] [--minutes N] [--base REVISION] [--crates FOLDER] [CRATE..]: tries the must-fail edits of each crate: wrong bodies that
 the prover must refuse. It prints for each edit, as it comes, which function is refused, and by which goals.
 
 An edit is refused if a goal of a function that it changes stays open, one of what the function ensures or requires of others, or of an invariant. If only names
@@ -8,7 +8,8 @@ of steps are gone that the function's proof file cites, or a sum may be too larg
 The gate tries crates/CRATE/must-fail/*.edit; with --all also those in must-fail/more. Edits of different functions are tried in one check, since the prover judges
 each function by itself, and of the functions that it calls knows only the contracts. If an edit changes a definition, a line `refused: FUNCTION` in it names each
 function that it is about. First come all edits of the crates that were changed since the revision, then for each other crate the first check, which has one edit
-for each of its public functions, then the rest. With --until no check begins that would last past that time, in seconds since 1970.
+for each of its public functions, then the rest. With --until no check begins that would last past that time, in seconds since 1970; with --minutes none with which
+all of them might take more than so many minutes of one processor: that leaves edits untried, and is no failure.
 
 FOLDER is the top of a clone (by default this repository) below which everything that the crates stand on is built. What the prover said when it refused something
 is kept on this machine by the sum of all that it read, and a check of the same is not run again; --anew runs all. The last line is `N passed, M failed`; the one
@@ -23,6 +24,7 @@ import hashlib
 import json
 import os
 import re
+import resource
 import shutil
 import signal
 import subprocess
@@ -37,6 +39,8 @@ KEPT = os.path.join(os.environ.get('XDG_CACHE_HOME') or os.path.expanduser('~/.c
 MOST_DAYS = 30
 # A check that begins beside others needs so much free memory.
 LEAST_FREE = 4 << 30
+# How many seconds a check is expected to last before one has ended.
+LONG_CHECK = 240.0
 # The prover can't read the text of an edit.
 UNREAD = re.compile(r'^(\./)?(src|specs)/\S+: error: .*(is not in scope|has no field|is no name|operand is missing|expected the end|cannot continue)', re.M)
 # What a function's proof file cites is gone.
@@ -272,8 +276,9 @@ def free_memory():
 class Gate:
     """Checks of edits side by side, one on each processor that is free and has memory."""
 
-    def __init__(self, kept, until):
-        self.kept, self.until, self.longest, self.taken, self.turn = kept, until, 0.0, 0, threading.Condition()
+    def __init__(self, kept, until, minutes):
+        self.kept, self.until, self.minutes, self.turn = kept, until, minutes, threading.Condition()
+        self.longest, self.taken, self.begun, self.spared = LONG_CHECK if minutes is not None else 0.0, 0, [], False
         self.counts, self.tried, self.untried, self.said = {True: 0, False: 0}, 0, [], threading.Lock()
 
     @contextlib.contextmanager
@@ -288,6 +293,13 @@ class Gate:
             with self.turn:
                 self.taken -= 1
                 self.turn.notify_all()
+
+    def is_late(self, began):
+        """Whether a check that begins now might last too long, or take too much of the processors. What runs still is counted by the clock."""
+        ended = resource.getrusage(resource.RUSAGE_CHILDREN)
+        expected = ended.ru_utime + ended.ru_stime + sum(max(began - other, self.longest) for other in self.begun) + self.longest
+        self.spared |= self.minutes is not None and expected > 60 * self.minutes
+        return self.spared or self.until and began + self.longest > self.until
 
     def check(self, crate, texts, names, over):
         """What the prover says of these functions of the crate with these texts, or None if there is no time. It goes on from what is kept in the folder
@@ -307,11 +319,15 @@ class Gate:
             for _ in range(2):
                 with self.lane():
                     began = time.time()
-                    if self.until and began + self.longest > self.until:
-                        return None
+                    with self.turn:
+                        if self.is_late(began):
+                            return None
+                        self.begun.append(began)
                     ran = subprocess.run([*crate.command, *only, '--incremental', over], cwd=room, stdin=subprocess.DEVNULL, stdout=subprocess.PIPE,
                                          stderr=subprocess.STDOUT, text=True, errors='replace')
-                    self.longest = max(self.longest, time.time() - began)
+                    with self.turn:
+                        self.begun.remove(began)
+                        self.longest = max(self.longest, time.time() - began)
                 if ran.returncode != -signal.SIGKILL:
                     break
             self.kept.made += 1
@@ -364,6 +380,7 @@ def main(given):
     parser.add_argument('--all', action='store_true')
     parser.add_argument('--anew', action='store_true')
     parser.add_argument('--until', type=float)
+    parser.add_argument('--minutes', type=float)
     parser.add_argument('--base')
     parser.add_argument('--crates', default=ROOT)
     parser.add_argument('names', nargs='*')
@@ -382,7 +399,7 @@ def main(given):
         crate.command = crate.words(os.path.dirname(kit), others)
         crate.below_sum = version, [(name, other.rlib_sum) for name, other in sorted(others.items())]
 
-    gate = Gate(Kept(KEPT, not given.anew), given.until)
+    gate = Gate(Kept(KEPT, not given.anew), given.until, given.minutes)
     changed = changed_since(given.base) if given.base else set()
     # the heaviest crates begin
     wanted.sort(key=lambda crate: -len(crate.edits))
@@ -404,7 +421,7 @@ def main(given):
 
     first = {id(edit) for crate in wanted for edits, _ in crate.rounds[:1] for edit in edits}
     for crate in wanted:
-        if lacking := [edit.name for other, edit in gate.untried if other is crate and (crate.name in changed or id(edit) in first)]:
+        if not gate.spared and (lacking := [edit.name for other, edit in gate.untried if other is crate and (crate.name in changed or id(edit) in first)]):
             gate.counts[False] += 1
             print(f'{crate.name}: not tried for time, though {"the crate was changed" if crate.name in changed else "they are of public functions"}: {", ".join(lacking)}')
     every, have = (sum(crate.public[place] for crate in wanted) for place in (0, 1))
