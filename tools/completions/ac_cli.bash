@@ -32,19 +32,19 @@ _ac_cli() {
     else
         case ${COMP_WORDS[1]} in
         check) offered='--tables --providers --inventories --usages --traits --aggregates --change --detail --help' ;;
-        candidates) offered='--names --tables --providers --inventories --usages --traits --aggregates --change --detail --microversion --tries --after --at --no-traits --help' ;;
-        tokens) offered='--names --tables --providers --inventories --usages --traits --aggregates --change --detail --microversion --tries --after --at --help' ;;
-        list) offered='--names --tables --providers --inventories --usages --traits --aggregates --change --detail --microversion --tries --after --at --no-traits --format --help' ;;
-        fill) offered='--names --tables --providers --inventories --usages --traits --aggregates --change --detail --microversion --tries --sum --help' ;;
-        verify) offered='--names --tables --providers --inventories --usages --traits --aggregates --change --detail --microversion --help' ;;
-        explain) offered='--names --tables --providers --inventories --usages --traits --aggregates --change --detail --microversion --tries --help' ;;
-        hosts) offered='--names --tables --providers --inventories --usages --traits --aggregates --change --detail --microversion --tries --in --sum --format --help' ;;
-        why) offered='--names --tables --providers --inventories --usages --traits --aggregates --change --detail --microversion --tries --format --help' ;;
-        capacity) offered='--tables --providers --inventories --usages --traits --aggregates --change --detail --microversion --tries --prometheus --format --help' ;;
-        compare) offered='--names --tables --providers --inventories --usages --traits --aggregates --change --detail --microversion --tries --help' ;;
+        candidates) offered='--tables --providers --inventories --usages --traits --aggregates --change --detail --microversion --tries --names --after --at --no-traits --help' ;;
+        tokens) offered='--tables --providers --inventories --usages --traits --aggregates --change --detail --microversion --tries --names --after --at --help' ;;
+        list) offered='--tables --providers --inventories --usages --traits --aggregates --change --detail --microversion --tries --names --after --at --no-traits --format --help' ;;
+        fill) offered='--tables --providers --inventories --usages --traits --aggregates --change --detail --microversion --tries --names --sum --help' ;;
+        verify) offered='--tables --providers --inventories --usages --traits --aggregates --change --detail --microversion --names --help' ;;
+        explain) offered='--tables --providers --inventories --usages --traits --aggregates --change --detail --microversion --tries --names --help' ;;
+        hosts) offered='--tables --providers --inventories --usages --traits --aggregates --change --detail --microversion --tries --names --in --sum --format --help' ;;
+        why) offered='--tables --providers --inventories --usages --traits --aggregates --change --detail --microversion --tries --names --format --help' ;;
+        capacity) offered='--tables --providers --inventories --usages --traits --aggregates --change --detail --microversion --tries --names --prometheus --format --help' ;;
+        compare) offered='--tables --providers --inventories --usages --traits --aggregates --change --detail --microversion --tries --names --help' ;;
         audit) offered='--tables --providers --inventories --usages --traits --aggregates --change --detail --zone --format --help' ;;
         query) offered='--detail --microversion --help' ;;
-        session) offered='--tables --providers --inventories --usages --traits --aggregates --change --detail --microversion --tries --help' ;;
+        session) offered='--tables --providers --inventories --usages --traits --aggregates --change --detail --microversion --tries --names --help' ;;
         help) offered='check candidates tokens list fill verify explain hosts why capacity compare audit query session help' ;;
         esac
     fi
