@@ -18,7 +18,7 @@ TABLES = {
 }
 RESOURCES = 'CLASS:AMOUNT between commas, with : where the client has =; each class once, in A-Z, 0-9 and _; amounts from 1 to 2147483647'
 TRAITS = 'a trait is written A-Z, 0-9 and _'
-AGGREGATES = 'UUIDs of aggregates and no names: one, or several between commas behind in:, and ! before what is forbidden'
+AGGREGATES = 'UUIDs of aggregates (names with --names): one, or several between commas behind in:, and ! before what is forbidden'
 POLICY = 'add group_policy=none, and groups may share a provider, or group_policy=isolate, and each has its own'
 SLOTS = 'a query has at most 64 slots, and 256 classes over all groups: ask for less, or in several queries'
 LATER = '--microversion', '1.39'
@@ -80,7 +80,7 @@ def asked():
     yield bad_value('root_required', 'hw_cpu', f'{TRAITS}; HW_CPU?', 'HW_CPU')
     yield bad_value('root_required', 'in:HW_CPU,CUSTOM_A', 'root_required has no in: and asks for all its traits', 'HW_CPU,CUSTOM_A', faulty=LATER)
     yield bad_value('member_of', 'az1', AGGREGATES, 'A1', 'in:A1,A2', '!A2')
-    yield bad_value('in_tree', 'host', 'the UUID of a provider and no name', 'P1')
+    yield bad_value('in_tree', 'host', 'the UUID of a provider (its name with --names)', 'P1')
     yield bad_value('group_policy', 'any', 'none or isolate', 'none', 'isolate')
     yield bad_value('same_subtree', '_A/_B', 'suffixes of groups between commas, in A-Z, a-z, 0-9, _ and -', '_A,_B&resources_A=VF:1&resources_B=VF:1&group_policy=none')
     yield bad_value('limit', '0', 'a number from 1 to 2147483647', '1')

@@ -1,6 +1,6 @@
 //! Request groups: what each needs of one provider, or of several.
-ghost use Rattle.std.specs.Prelude.{◌≡◌, [], map, if◌then◌else◌};
-ghost use Rattle.std.specs.List.{flat_map};
+ghost use Rattle.std.specs.Prelude.{◌≡◌, ℕ, Bool, List, [], map, not, if◌then◌else◌};
+ghost use Rattle.std.specs.List.{filter, flat_map};
 ghost use Rattle.std.specs.List.Sorted.{IsStrictlySortedBy};
 ghost use Rattle.std.specs.Ordering.{nat_cmp};
 ghost use Rattle.ac_base.specs.Names.{class_bytes, trait_bytes};
@@ -48,9 +48,13 @@ pub struct Group {
     pub(crate) member_of: Vec<AggregateRule>,
     // What its rules forbid, as one rule.
     pub(crate) forbidden_aggregates: AggregateRule,
+    // Its rules that don't forbid.
+    pub(crate) asking: Vec<AggregateRule>,
     pub(crate) in_tree: Option<Id>,
     ghost forbidden_gathered: { forbidden_aggregates.ids.items
         ≡ flat_map (λ rule. if rule.forbids then rule.ids.items else []) member_of.items } by { Prim.hlevel props },
+    ghost asking_gathered: { map {B = Bool × List ℕ} (λ rule. (rule.forbids, rule.ids.items)) asking.items
+        ≡ filter (λ rule. not rule.0) (map (λ rule. (rule.forbids, rule.ids.items)) member_of.items) } by { Prim.hlevel props },
     ghost needs_rising: { IsStrictlySortedBy text_cmp (map (λ need. class_bytes need.class) needs.items) } by { Prim.hlevel props },
     ghost required_rising: { IsStrictlySortedBy text_cmp (map trait_bytes required.items) } by { Prim.hlevel props },
     ghost forbidden_rising: { IsStrictlySortedBy text_cmp (map trait_bytes forbidden.items) } by { Prim.hlevel props },

@@ -36,7 +36,7 @@ use Rattle.ac_session.specs.Tries.{turn_at}
 use Rattle.ac_session.specs.Turns.Named.{Knows, Terms, asked_told, asked_with, terms_of}
 use Rattle.ac_session.specs.declared.turns.terms.Terms as rust
 
-abbrev Amount : Type 0
+abbrev pub Amount : Type 0
 Amount = ℕ → List ℕ → UsedInventory → ℕ
 
 -- ---- other amounts alone
@@ -295,7 +295,7 @@ module _ (all : List Provider) (ix : ℕ) (class : List ℕ) where
       ]
 
 -- Whatever is used meanwhile, what was kept is used again.
-restored_kept : (all : List Provider) (amount : Amount) → ((ix : ℕ) → ix < length all → IsStrictlySortedBy text_cmp (keys_of (provider_at all ix).entries))
+pub restored_kept : (all : List Provider) (amount : Amount) → ((ix : ℕ) → ix < length all → IsStrictlySortedBy text_cmp (keys_of (provider_at all ix).entries))
     → restored (kept_of all) (with_amounts amount all) ≡ all
 unfolding restored kept_of
 restored_kept all amount sorted =
@@ -314,7 +314,7 @@ back_to_mark held now sorted known same =
     (ap (restored (kept_of held.world.providers)) known.providers ∙ restored_kept held.world.providers known.amount sorted) known.sizes
 
 module _ (terms : Terms) (held : Held) where
-  by_ids_stay : (asked : Asked) → LeavesMarks asked → (turn_by_ids terms held asked).state.marks ≡ held.marks
+  pub by_ids_stay : (asked : Asked) → LeavesMarks asked → (turn_by_ids terms held asked).state.marks ≡ held.marks
   unfolding named_claim_turn named_place_turn named_release_turn named_move_turn
   by_ids_stay (job task) other = refl
   by_ids_stay (fill query) other = refl

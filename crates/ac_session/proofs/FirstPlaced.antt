@@ -31,14 +31,17 @@ IsFound all asked list = (is_candidate all asked list ≡ true) × IsAssignment 
 each_kept : (P : List ℕ → Type 0) (test : List ℕ → Bool) (lists : List (List ℕ)) → Each P lists → Each P (filter test lists)
 each_kept P test lists h = each_weaker (λ t. (test t ≡ true) × P t) P (filter test lists) (λ t q. q.1) (each_filter P test lists h)
 
+each_candidate : (all : List Provider) (asked : Asked) → Each (IsFound all asked) (candidates all asked)
+unfolding candidates
+each_candidate all asked =
+    each_filter (IsAssignment all asked) (λ t. is_candidate all asked t) (all_lists (length all) (length (slots_of asked))) (each_all_lists (length all) (length (slots_of asked)))
+
 each_found : (all : List Provider) (asked : Asked) (root : Option ℕ) → Each (IsFound all asked) (rest_at all asked root None)
-unfolding rest candidates
+unfolding rest
 each_found all asked root = by root
   where
     lists : Each (IsFound all asked) (rest all asked None)
-    lists =
-        each_kept (IsFound all asked) (λ t. is_after all None t) (filter (λ t. is_candidate all asked t) (all_lists (length all) (length (slots_of asked))))
-        (each_filter (IsAssignment all asked) (λ t. is_candidate all asked t) (all_lists (length all) (length (slots_of asked))) (each_all_lists (length all) (length (slots_of asked))))
+    lists = each_kept (IsFound all asked) (λ t. is_after all None t) (candidates all asked) (each_candidate all asked)
 
     by : (root : Option ℕ) → Each (IsFound all asked) (rest_at all asked root None)
     by None = lists
@@ -47,6 +50,9 @@ each_found all asked root = by root
 head_found : (P : List ℕ → Type 0) (lists : List (List ℕ)) (list : List ℕ) → Each P lists → head_of lists ≡ Some list → P list
 head_found P [] list each is = absurd cc
 head_found P (x ∷ lists) list each is = let same : x ≡ list = cc in subst P same each.0
+
+pub head_candidate : (all : List Provider) (asked : Asked) (list : List ℕ) → head_of (candidates all asked) ≡ Some list → IsFound all asked list
+head_candidate all asked list is = head_found (IsFound all asked) (candidates all asked) list (each_candidate all asked) is
 
 pub first_found : (all : List Provider) (asked : Asked) (root : Option ℕ) (list : List ℕ) → first_at all asked root ≡ Some list → IsFound all asked list
 first_found all asked root list is = head_found (IsFound all asked) (rest_at all asked root None) list (each_found all asked root) is

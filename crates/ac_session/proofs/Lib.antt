@@ -14,3 +14,4 @@ pub mod Named
 pub mod Ended
 pub mod Differing
 pub mod UsageRows
+pub mod Claims

@@ -1,16 +1,27 @@
 -- What the laws say.
 pub mod Apart
-use Rattle.std.specs.Prelude.{◌≡◌, ⊤, ℕ, None, Some, List, [], ◌∷◌, ◌++◌, All, false, true, codes}
+use Rattle.std.specs.Prelude.{◌≡◌, ◌<◌, ◌≤◌, ⊤, ℕ, None, Some, List, [], ◌∷◌, ◌++◌, map, All, false, true, codes}
 use Rattle.std.specs.List.{join_with_byte}
-use Rattle.ac_cloud.specs.World.{Provider, World}
+use Rattle.ac_base.specs.Quantities.{capacity}
+use Rattle.ac_cloud.specs.World.{Provider, UsedInventory, World, entry_in, provider_at, used_of}
+use Rattle.ac_cloud.specs.Laws.{AreProviders}
+use Rattle.ac_fill.specs.Filled.{filled}
 use Rattle.ac_query.specs.Asked.{Asked as Query}
+use Rattle.ac_query.specs.Faults.{query_fault}
+use Rattle.ac_query.specs.Laws.Gathered.{asked_by}
+use Rattle.ac_query.specs.Pairs.{pairs_of}
+use Rattle.ac_query.specs.Tokens.{ids_text}
 use Rattle.ac_query.specs.declared.version.Version.{Version}
+use Rattle.ac_report.specs.Pages.{IsAssignment}
+use Rattle.ac_rules.specs.Claims.{claimed}
 use Rattle.ac_rules.specs.Judge.{is_candidate}
+use Rattle.ac_rules.specs.Pages.{ids_of}
+use Rattle.ac_rules.specs.Placed.{assigned}
 use Rattle.ac_run.specs.Answer.{past_query, written}
 use Rattle.ac_session.specs.Held.{Held, unnamed}
 use Rattle.ac_session.specs.Lines.{Given, behind_line, first_line, is_newline, newline}
 use Rattle.ac_session.specs.Questions.{Asked, Text, job, fill, place, claim, release, release_name, move, mark, back, usages, left_at, help, nothing, unknown, wrong_number, is_blank, words_of}
-use Rattle.ac_session.specs.Turns.{answers, back_turn, claim_line, claim_turn, is_done, lines_in, mark_turn, named_release_turn, release_said, release_turn, status_of, turn_asked, turn_of}
+use Rattle.ac_session.specs.Turns.{answers, back_turn, claim_line, claim_turn, fill_turn, is_done, lines_in, mark_turn, named_release_turn, release_said, release_turn, status_of, turn_asked, turn_of}
 use Rattle.ac_session.specs.Turns.Named.{Terms}
 use Rattle.ac_tables.specs.Tables.{Tables, tables_fault, world_stated}
 use Rattle.ac_tables.specs.Tables.Rows.{records_of}
@@ -56,6 +67,11 @@ AskingLeavesAll = (terms : Terms) (held : Held) (asked : Asked) → OnlyAsks ask
 abbrev pub ClaimTurnsNarrow : Type 0
 ClaimTurnsNarrow = (version : Version) (query token : Text) (world : World) (asked : Query) (list : List ℕ)
     → is_candidate (claim_turn version query token world).state.providers asked list ≡ true → is_candidate world.providers asked list ≡ true
+
+-- Each candidate before a release is one behind it, whatever was released.
+abbrev pub ReleaseTurnsWiden : Type 0
+ReleaseTurnsWiden = (version : Version) (query token : Text) (world : World) (asked : Query) (list : List ℕ)
+    → is_candidate world.providers asked list ≡ true → is_candidate (release_turn version query token world).state.providers asked list ≡ true
 
 -- What was claimed, the same words release: the world is as it was before the claim.
 abbrev pub ReleaseTurnUndoes : Type 0
@@ -108,3 +124,35 @@ abbrev pub SessionsGoOn : Type 0
 SessionsGoOn = (terms : Terms) (tables : Tables) (questions : Text) → tables_fault tables ≡ None
     → usages_fit (providers_behind terms (unnamed (world_stated tables)) (lines_in questions)) ≡ true
     → GoesOn tables (providers_behind terms (unnamed (world_stated tables)) (lines_in questions))
+
+-- What is used of an inventory beyond its capacity was used of it before: none gets overbooked, and none that was gets fuller.
+abbrev pub NoneOverbooked : List Provider → List Provider → Type 0
+NoneOverbooked before all = (ix : ℕ) (class : List ℕ) (had : UsedInventory) → entry_in (provider_at all ix) class ≡ Some had
+    → capacity had.inventory < had.used → had.used ≤ used_of (provider_at before ix) class
+
+-- So it is of the tables' providers, whatever is asked in a session.
+abbrev pub SessionsNeverOverbook : Type 0
+SessionsNeverOverbook = (terms : Terms) (tables : Tables) (lines : List Given) → tables_fault tables ≡ None
+    → NoneOverbooked (world_stated tables).providers (providers_behind terms (unnamed (world_stated tables)) lines)
+
+-- the line of a list of providers, as `tokens` writes it
+abbrev pub token_of : List Provider → List ℕ → Text
+token_of all list = ids_text (ids_of all list)
+
+-- The line of a candidate claims it: it is answered so, and behind it the candidate has taken what is asked.
+abbrev pub LinesAreClaimed : Type 0
+LinesAreClaimed = (version : Version) (query : Text) (world : World) (list : List ℕ) → AreProviders world.providers → query_fault version query ≡ None
+    → IsAssignment world.providers (asked_by version (pairs_of query)) list → is_candidate world.providers (asked_by version (pairs_of query)) list ≡ true
+    → claim_turn version query (token_of world.providers list) world
+    ≡ record { answer = Some (written (codes "claimed\n") 0); state = record world { providers = claimed world.providers (assigned (asked_by version (pairs_of query)) list) } }
+
+-- the world behind claims by these tokens, one after another
+abbrev pub claimed_behind : Version → Text → World → List Text → World
+claimed_behind version query world [] = world
+claimed_behind version query world (token ∷ others) = claimed_behind version query (claim_turn version query token world).state others
+
+-- What `fill` leaves is what claims by its lines leave, one after another.
+abbrev pub FillsAreClaims : Type 0
+FillsAreClaims = (terms : Terms) (query : Text) (world : World) → AreProviders world.providers → query_fault terms.version query ≡ None
+    → (let asked = asked_by terms.version (pairs_of query) in
+    (fill_turn terms query world).state ≡ claimed_behind terms.version query world (map (token_of world.providers) (filled asked.limit world.providers asked)))

@@ -1,6 +1,6 @@
 //! Laws of the definitions. Each function does nothing: its contract is the law.
 ghost use Rattle.ac_session.specs.Laws.Apart.{AnswersApart, BlanksComeOff, SessionsApart, StoppedApart};
-ghost use Rattle.ac_session.specs.Laws.{AskingLeavesAll, BackToMark, ClaimTurnsNarrow, MarksStay, ReadsBack, ReleaseTurnUndoes, ReleasedOnce, SessionsGoOn};
+ghost use Rattle.ac_session.specs.Laws.{AskingLeavesAll, BackToMark, ClaimTurnsNarrow, FillsAreClaims, LinesAreClaimed, MarksStay, ReadsBack, ReleaseTurnUndoes, ReleaseTurnsWiden, ReleasedOnce, SessionsGoOn, SessionsNeverOverbook};
 
 /// What is written as a line of words is read as these words, and what is written behind it is left.
 pub fn reads_back()
@@ -15,6 +15,12 @@ pub fn asking_leaves_all()
 /// Each candidate behind a claim was one before it, whatever was claimed.
 pub fn claim_turns_narrow()
     ensures { ClaimTurnsNarrow }
+{}
+
+/// Each candidate before a release is one behind it, whatever was released.
+#[tactic(auto, using(crate::proofs::Claims::Widening::release_turns_widen))]
+pub fn release_turns_widen()
+    ensures { ReleaseTurnsWiden }
 {}
 
 /// What was claimed, the same words release: the world is as it was before the claim.
@@ -65,4 +71,22 @@ pub fn stopped_apart()
 /// The table of usages that is written at the end of a session is accepted beside the other tables, and they state the providers as the session left them.
 pub fn sessions_go_on()
     ensures { SessionsGoOn }
+{}
+
+/// Whatever is asked: where more is used of an inventory than its capacity, no more is used of it than the tables say. So nothing gets overbooked.
+#[tactic(auto, using(crate::proofs::Claims::Overbooked::sessions_never_overbook))]
+pub fn sessions_never_overbook()
+    ensures { SessionsNeverOverbook }
+{}
+
+/// Where a query is accepted, the line of each of its candidates claims it, as `tokens` writes that line.
+#[tactic(auto, using(crate::proofs::Claims::Lines::lines_are_claimed))]
+pub fn lines_are_claimed()
+    ensures { LinesAreClaimed }
+{}
+
+/// What `fill` leaves is what claims by its lines leave, one after another.
+#[tactic(auto, using(crate::proofs::Claims::Lines::fills_are_claims))]
+pub fn fills_are_claims()
+    ensures { FillsAreClaims }
 {}

@@ -100,8 +100,8 @@ fn hand_on<W: Sink + Drop>(
 ) -> (Result<(), AnswerFault>, W)
     requires { Knows terms.now (held_of held.old).world }
     ensures answers { (given : Given) → given_by next.entry ≡ Some given
-        → Answers terms.now.tries (terms_of terms.now) (held_of held.old) given result.0 (held_of held.new)
-        (W.taken out) (W.taken result.1) }
+        → Answers terms.now.tries (terms_of terms.now) (held_of held.old) given result.0
+        (held_of held.new) (W.taken out) (W.taken result.1) }
     ensures failed { result.0 ≡ Err AnswerFault.WriteFailed
         → Rises (W.failures out) (W.failures result.1) }
     ensures failures { W.failures out ≤ W.failures result.1 }

@@ -1,7 +1,8 @@
 //! Providers in slots: whether they serve the slot, share with other trees, and by whose aggregates they meet its rules.
-ghost use Rattle.std.specs.Prelude.{◌≡◌, ◌<◌, ◌&&◌, length};
+ghost use Rattle.std.specs.Prelude.{◌≡◌, ◌<◌, ◌&&◌, ◌||◌, length};
+ghost use Rattle.std.specs.List.{list_all, list_any};
 ghost use Rattle.ac_cloud.specs.Providers.{provider_of};
-ghost use Rattle.ac_cloud.specs.World.{provider_at, root_provider};
+ghost use Rattle.ac_cloud.specs.World.{is_member, provider_at, root_provider};
 ghost use Rattle.ac_cloud.specs.Cloud.CloudWorld.{providers_of};
 ghost use Rattle.ac_query.specs.Asked.{slots_of};
 ghost use Rattle.ac_query.specs.Shown.Groups.{group_asked, rule_shown};
@@ -108,6 +109,14 @@ pub(crate) fn fits_outside(placed: &Placed) -> bool
         && !placed.is_in_tree()
 }
 
+// Whether a provider is in an aggregate of each rule of a group that asks for some.
+fn is_in_asked(provider: &Provider, group: &Group) -> bool
+    ensures { result ≡ list_all (λ rule. rule.forbids
+        || list_any (is_member (provider_of provider.now)) rule.ids) (group_asked group.now).member_of }
+{
+    group.asking().iter().all(|rule| is_in_any(provider, rule))
+}
+
 // Whether a provider meets a rule by its own aggregates.
 fn is_met_by(provider: &Provider, rule: &AggregateRule) -> bool
     ensures { result ≡ is_met_by (provider_of provider.now) (rule_shown rule.now) }
@@ -115,14 +124,11 @@ fn is_met_by(provider: &Provider, rule: &AggregateRule) -> bool
     is_in_any(provider, rule) != rule.forbids()
 }
 
-// Whether a provider meets each rule of a group by its own aggregates.
+// Whether a provider meets each rule of a group by its own aggregates. Those that forbid are asked at once.
 fn are_met_by(provider: &Provider, group: &Group) -> bool
     ensures { result ≡ are_met_by (provider_of provider.now) (group_asked group.now) }
 {
-    group
-        .member_of()
-        .iter()
-        .all(|rule| is_met_by(provider, rule))
+    !group.forbids_any(provider.aggregates()) && is_in_asked(provider, group)
 }
 
 // Whether a provider meets each rule of its slot's group by its own aggregates.
@@ -183,7 +189,7 @@ pub(crate) fn fits_with_its_root(placed: &Placed) -> bool
     ensures { result
         ≡ fits_with_its_root (providers_of placed.now.cloud.now) (placed_of placed.now) }
 {
-    placed.fits() && !is_met_itself(placed) && !is_met_by_root(placed)
+    !is_met_itself(placed) && !is_met_by_root(placed) && placed.fits()
 }
 
 /// Whether a sharing provider has what its slot asks for, wherever it stands.

@@ -1,6 +1,6 @@
 //! What groups, needs and aggregate rules give.
-ghost use Rattle.std.specs.Prelude.{◌≡◌, ◌<◌, ◌≤◌, ◌&&◌, map};
-ghost use Rattle.std.specs.List.{list_any};
+ghost use Rattle.std.specs.Prelude.{◌≡◌, ◌<◌, ◌≤◌, ◌&&◌, map, not};
+ghost use Rattle.std.specs.List.{filter, list_any};
 ghost use Rattle.std.specs.List.Sorted.{IsStrictlySortedBy};
 ghost use Rattle.std.specs.Option.{option_map};
 ghost use Rattle.std.specs.Ordering.{nat_cmp};
@@ -141,6 +141,14 @@ impl Group {
         self.forbidden_aggregates.names_any(own)
     }
 
+    /// Its aggregate rules that don't forbid, in the order of their pairs.
+    pub fn asking(&self) -> &[AggregateRule]
+        ensures { map rule_shown result.now
+            ≡ filter (λ rule. not rule.forbids) (group_asked self.now).member_of }
+    {
+        self.asking.as_slice()
+    }
+
     /// The group, which requires no traits if it has no suffix; what it forbids stays.
     pub(crate) fn relaxed(self) -> Group
         ensures { group_entry result ≡ relaxed (group_entry self) }
@@ -156,6 +164,7 @@ impl Group {
             mut any_of,
             member_of,
             forbidden_aggregates,
+            asking,
             in_tree,
         } = self;
         required.clear();
@@ -168,6 +177,7 @@ impl Group {
             any_of,
             member_of,
             forbidden_aggregates,
+            asking,
             in_tree,
         }
     }

@@ -1,10 +1,10 @@
 //! How a query is made of its text.
-ghost use Rattle.std.specs.Prelude.{◌≡◌, ◌<◌, ◌+◌, ◌++◌, ℕ, List, [], Option, IfOk, OnOk, IfErr, IfSome, Err, None, Some, length, map, if◌then◌else◌};
+ghost use Rattle.std.specs.Prelude.{◌≡◌, ◌<◌, ◌+◌, ◌++◌, ℕ, Bool, List, [], Option, IfOk, OnOk, IfErr, IfSome, Err, None, Some, length, map, not, if◌then◌else◌};
 ghost use Rattle.std.specs.Option.{option_map};
 ghost use Rattle.std.specs.List.Sorted.{IsStrictlySortedBy};
 ghost use Rattle.ac_base.specs.Names.{suffix_bytes};
 ghost use Rattle.ac_base.specs.Texts.{text_cmp};
-ghost use Rattle.std.specs.List.{flat_map, slice_get};
+ghost use Rattle.std.specs.List.{filter, flat_map, slice_get};
 ghost use Rattle.ac_query.specs.Asked as Asked;
 ghost use Rattle.ac_query.specs.Asked.{group_slots, slots_from};
 ghost use Rattle.ac_query.specs.Asks.{Asks};
@@ -64,6 +64,35 @@ fn forbidden_by(alloc: Global, rules: &[AggregateRule]) -> Result<AggregateRule,
     })
 }
 
+// A copy of a rule.
+fn copy_of(alloc: Global, rule: &AggregateRule) -> Result<AggregateRule, NoMemory>
+    ensures forbids { IfOk result (λ copy. copy.forbids ≡ rule.now.forbids) }
+    ensures ids { IfOk result (λ copy. copy.ids.items ≡ rule.now.ids.items) }
+{
+    let mut ids = Vec::new(alloc);
+    ids.extend_from_slice(&rule.ids)?;
+    Ok(AggregateRule {
+        forbids: rule.forbids,
+        in_order: ids_in_order(alloc, &ids)?,
+        ids,
+    })
+}
+
+// Copies of those of these rules that don't forbid.
+fn asking_of(alloc: Global, rules: &[AggregateRule]) -> Result<Vec<AggregateRule>, NoMemory>
+    ensures { IfOk result (λ asking.
+        map {B = Bool × List ℕ} (λ rule. (rule.forbids, rule.ids.items)) asking.items
+        ≡ filter (λ rule. not rule.0) (map (λ rule. (rule.forbids, rule.ids.items)) rules.now)) }
+{
+    let mut asking = Vec::new(alloc);
+    for rule in rules {
+        if !rule.forbids {
+            asking.push(copy_of(alloc, rule)?)?;
+        }
+    }
+    Ok(asking)
+}
+
 /// The group of a suffix, as it was drafted.
 fn group_of(alloc: Global, suffix: Option<Suffix>, draft: GroupDraft) -> Result<Group, NoMemory>
     ensures { IfOk result (λ group. group_entry group
@@ -84,6 +113,7 @@ fn group_of(alloc: Global, suffix: Option<Suffix>, draft: GroupDraft) -> Result<
     let required = names_in_order(alloc, required)?;
     let forbidden = names_in_order(alloc, forbidden)?;
     let forbidden_aggregates = forbidden_by(alloc, &member_of)?;
+    let asking = asking_of(alloc, &member_of)?;
     Ok(Group {
         suffix,
         needs,
@@ -92,6 +122,7 @@ fn group_of(alloc: Global, suffix: Option<Suffix>, draft: GroupDraft) -> Result<
         any_of,
         member_of,
         forbidden_aggregates,
+        asking,
         in_tree,
     })
 }

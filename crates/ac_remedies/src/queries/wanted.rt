@@ -58,8 +58,8 @@ fn wanted(form: Form) -> &'static [u8]
             b"CLASS:AMOUNT between commas, with : where the client has =; each class once, in A-Z, 0-9 and _; amounts from 1 to 2147483647",
         Form::Traits | Form::RootTraits => b"a trait is written A-Z, 0-9 and _",
         Form::Aggregates =>
-            b"UUIDs of aggregates and no names: one, or several between commas behind in:, and ! before what is forbidden",
-        Form::Tree => b"the UUID of a provider and no name",
+            b"UUIDs of aggregates (names with --names): one, or several between commas behind in:, and ! before what is forbidden",
+        Form::Tree => b"the UUID of a provider (its name with --names)",
         Form::Policy => b"none or isolate",
         Form::Suffixes => b"suffixes of groups between commas, in A-Z, a-z, 0-9, _ and -",
         Form::Limit => b"a number from 1 to 2147483647",

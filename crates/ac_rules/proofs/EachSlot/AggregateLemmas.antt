@@ -2,7 +2,7 @@
 use Rattle.std.proofs.lemmas.Grind.{common_steps}
 use Rattle.std.proofs.Common.{◌≡◌, ◌∙◌, arith, ap, refl, Bool, true, false, not, ◌&&◌, ◌||◌, List, [], ◌∷◌, if◌then◌else◌}
 use Rattle.std.proofs.lemmas.Bool.{cases_Bool}
-use Rattle.std.specs.List.{list_all, list_any}
+use Rattle.std.specs.List.{filter, list_all, list_any}
 use Rattle.std.specs.Option.{is_none}
 use Rattle.ac_base.proofs.Sorted.SearchFacts.{any_or, any_same}
 use Rattle.ac_query.specs.Pairs.Values.{AggregateRule}
@@ -14,15 +14,30 @@ use Rattle.ac_rules.proofs.EachSlot.TraitLemmas.{counted_either}
 either_way : (forbids counts none all : Bool) → ((if forbids then not counts else counts) && (not none && all)) ≡ (not ((forbids && counts) || none) && ((forbids || counts) && all))
 either_way forbids counts none all = grind (arith, common_steps, cases_Bool)
 
--- rules are met where none that forbids counts, and each other one does
+-- each rule is met where none that forbids passes, and each other one does
+pub rules_apart : (test : AggregateRule → Bool) (rules : List AggregateRule) → list_all (λ rule. if rule.forbids then not (test rule) else test rule) rules
+    ≡ (not (list_any (λ rule. rule.forbids && test rule) rules) && list_all (λ rule. rule.forbids || test rule) rules)
+rules_apart test [] = refl
+rules_apart test (rule ∷ rules) =
+    ap (λ rest. (if rule.forbids then not (test rule) else test rule) && rest) (rules_apart test rules) ∙ either_way rule.forbids (test rule) _ _
+
+-- the same of what counts as a provider's
 pub rules_met : (all : List Provider) (x : Placed) (rules : List AggregateRule) → list_all (λ rule. meets_rule all x rule) rules
     ≡ (not (list_any (λ rule. rule.forbids && list_any (λ a. counts_in all x a) rule.ids) rules)
     && list_all (λ rule. rule.forbids || list_any (λ a. counts_in all x a) rule.ids) rules)
 unfolding meets_rule
-rules_met all x [] = refl
-rules_met all x (rule ∷ rules) =
-    let counts = list_any (λ a. counts_in all x a) rule.ids in
-    ap (λ rest. (if rule.forbids then not counts else counts) && rest) (rules_met all x rules) ∙ either_way rule.forbids counts _ _
+rules_met all x rules = rules_apart (λ rule. list_any (λ a. counts_in all x a) rule.ids) rules
+
+kept : (forbids : Bool) (test : AggregateRule → Bool) (rule : AggregateRule) (rest : List AggregateRule)
+    → list_all test (if not forbids then rule ∷ rest else rest) ≡ ((forbids || test rule) && list_all test rest)
+kept true test rule rest = refl
+kept false test rule rest = refl
+
+-- all that don't forbid pass where each rule forbids or passes
+pub all_asking : (test : AggregateRule → Bool) (rules : List AggregateRule)
+    → list_all test (filter (λ rule. not rule.forbids) rules) ≡ list_all (λ rule. rule.forbids || test rule) rules
+all_asking test [] = refl
+all_asking test (rule ∷ rules) = kept rule.forbids test rule (filter (λ rule. not rule.forbids) rules) ∙ ap (λ b. (rule.forbids || test rule) && b) (all_asking test rules)
 
 of_rule : (forbids suffixless own of_root : Bool) → (forbids && (own || (suffixless && of_root))) ≡ ((forbids && own) || (suffixless && (forbids && of_root)))
 of_rule forbids suffixless own of_root = grind (arith, common_steps, cases_Bool)

@@ -110,9 +110,9 @@ impl<'a> Placed<'a> {
         !self.is_in_forbidden()
             && self
                 .group()
-                .member_of()
+                .asking()
                 .iter()
-                .all(|rule| rule.forbids() || self.counts_in_any(rule))
+                .all(|rule| self.counts_in_any(rule))
     }
 
     /// Tree: whether the provider is in the tree that the slot's group names.
