@@ -587,11 +587,13 @@ def roots_of(cloud, within=None):
     return [root for root in cloud if root.root() is root and (within is None or any(within in provider.aggregates for provider in cloud if provider.root() is root))]
 
 
-def host_rows(found, text, query, cloud, within=None):
-    """Which roots fit, and what the others lack, with what the slot asks and what is wanting there."""
+def host_rows(found, text, query, cloud, within=None, fitting=False):
+    """Which roots fit, and what the others lack, with what the slot asks and what is wanting there; or those alone that fit."""
     rows = [['root', 'name', 'fits', 'slot', 'lacks', 'asks', 'detail']]
     for root in roots_of(cloud, within):
         slot, lack = lacks(root, found, query, cloud)
+        if fitting and lack:
+            continue
         suffix, needs = [*query.slots()][slot - 1] if slot else ('', {})
         wanting = slot_detail(root, suffix, needs, text, query, cloud) if slot else ''
         if lack == 'root traits':
@@ -1019,6 +1021,12 @@ def asked(name, chance, cloud, query, every, judged):
     yield Case(f'{name}: hosts of an aggregate, in sum', ['hosts', '--sum', '--in', full(within), text, *version], host_sums(found, query, cloud, within),
                status=0 if fit else 1, tables=made)
     yield Case(f'{name}: hosts, in sum', ['hosts', '--sum', text, *version], host_sums(found, query, cloud), status=0 if found else 1, tables=made)
+    yield Case(f'{name}: hosts that fit', ['hosts', '--fits', text, *version], full(host_rows(found, drawn_text, query, cloud, fitting=True)),
+               status=0 if found else 1, tables=made)
+    yield Case(f'{name}: hosts of an aggregate that fit', ['hosts', text, '--in', full(within), '--fits', *version],
+               full(host_rows(found, drawn_text, query, cloud, within, True)), status=0 if fit else 1, tables=made)
+    yield Case(f'{name}: hosts that fit, in sum', ['hosts', '--fits', '--sum', text, *version],
+               written([['hosts', 'slot', 'lacks', 'asks'], [lacking(found, query, cloud)[0], '', 'fits', '']]), status=0 if found else 1, tables=made)
     yield Case(f'{name}: why', ['why', text, full(host.name), *version], full(why), status=0 if why.endswith(',fits\n') else 1, tables=made)
     yield Case(f'{name}: verify', ['verify', text, full(names(every[one])), *version], line, status=1 if rule else 0, tables=made)
     told = f'{line[:-1]}: {broken_detail(every[one], RULES[rule - 1], drawn_text, query, cloud)}\n' if rule else line

@@ -173,6 +173,9 @@ WORDS = [
     *(refused(f'{value} for --in', over(['hosts', 'resources=VCPU:2', f'--in={value}']), f"invalid value '{value}' for '--in <UUID>'", 'Usage: ac_cli hosts')
       for value in ('', 'az1', ONE_HOST.strip()[:-1])),
     refused('--in without a value', over(['hosts', 'resources=VCPU:2', '--in']), '--in'),
+    refused('--fits for why', over(['why', 'resources=VCPU:2', ONE_HOST.strip(), '--fits']), "unexpected argument '--fits' found", 'Usage: ac_cli why'),
+    refused('--fits with a value', over(['hosts', 'resources=VCPU:2', '--fits=yes']), "unexpected value 'yes' for '--fits' found"),
+    refused('--fits twice', over(['hosts', 'resources=VCPU:2', '--fits', '--fits']), "'--fits' cannot be used multiple times"),
     refused('--in for why', over(['why', 'resources=VCPU:2', ONE_HOST.strip(), '--in', ONE_HOST.strip()]), '--in'),
     refused('a query for an audit', over(['audit', 'resources=VCPU:2']), "unexpected argument 'resources=VCPU:2' found", 'Usage: ac_cli audit'),
     *(refused(f'{value} for --zone', over(['audit', f'--zone={value}']), f"invalid value '{value}' for '--zone <UUID>'", 'Usage: ac_cli audit')

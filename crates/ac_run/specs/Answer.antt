@@ -139,12 +139,12 @@ abbrev pub explanation : List Provider → Says
 explanation all asked ids = written (explanation_text all asked (has_candidate all asked)) (explanation_status (has_candidate all asked))
 
 -- which roots fit, and what the others lack, or how many of them lack what: of all roots, or of those of an aggregate
-abbrev pub hosts_told : Bool → List Provider → Asked → Option ℕ → List ℕ
-hosts_told false all asked within = hosts_text all asked within
-hosts_told true all asked within = sums_text all asked within
+abbrev pub hosts_told : Bool → List Provider → Asked → Bool → Option ℕ → List ℕ
+hosts_told false all asked only_fitting within = hosts_text all asked only_fitting within
+hosts_told true all asked only_fitting within = sums_text all asked only_fitting within
 
-abbrev pub host_rows : List Provider → Bool → Option ℕ → Says
-host_rows all sum within asked ids = written (hosts_told sum all asked within) (hosts_status all asked within)
+abbrev pub host_rows : List Provider → Bool → Bool → Option ℕ → Says
+host_rows all sum only_fitting within asked ids = written (hosts_told sum all asked only_fitting within) (hosts_status all asked within)
 
 -- how far a query comes in the tree of a provider
 abbrev pub why_not : List Provider → Asked → ℕ → Outcome
@@ -223,7 +223,7 @@ said_by (command.list after at traits) manner world = at_host world.providers at
 said_by (command.fill sum) manner world = fills_by manner.named world.providers sum
 said_by (command.verify token) manner world = verdict_line world.providers manner.detail
 said_by command.explain manner world = explanation world.providers
-said_by (command.hosts sum within) manner world = host_rows world.providers sum within
+said_by (command.hosts sum only_fitting within) manner world = host_rows world.providers sum only_fitting within
 said_by (command.why host) manner world = why_rows world.providers host
 said_by (command.capacity flavors metrics) manner world = λ asked ids. capacities metrics world.providers []
 said_by (command.compare answer) manner world = compare_said answer world.providers

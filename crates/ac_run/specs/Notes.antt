@@ -19,7 +19,7 @@ use Rattle.ac_run.specs.declared.wanted.Wanted.TheVariants as wanted
 abbrev pub is_noted : Command → Bool
 is_noted (command.tokens after at) = true
 is_noted (command.fill sum) = true
-is_noted (command.hosts sum within) = true
+is_noted (command.hosts sum only_fitting within) = true
 is_noted (command.compare answer) = true
 is_noted _ = false
 
@@ -58,6 +58,6 @@ noted task b = noted_in (task_told task (world_in task.changes b)) (world_in tas
 abbrev pub note_to : Wanted → World → List ℕ
 note_to (wanted.Lines page) world = differs_lines world.providers (asked_of page.query) true
 note_to (wanted.Fill query sum) world = differs_lines world.providers (asked_of query) true
-note_to (wanted.Hosts query sum within) world = differs_lines world.providers (asked_of query) true
+note_to (wanted.Hosts query sum only_fitting within) world = differs_lines world.providers (asked_of query) true
 note_to (wanted.Comparison query answer) world = differs_lines world.providers (asked_of query) true
 note_to _ world = []

@@ -9,6 +9,7 @@ use Rattle.ac_run.specs.declared.job.Job.{Job}
 use Rattle.ac_tables.specs.declared.read.FiveTables.{FiveTables}
 
 -- what is to be done: with the token to begin after, or to judge; with the host at whose root candidates are to stand; with traits, or not; with the number of placements in place of their tokens, or not;
+-- with how many roots lack what in place of a row for each, or not, with those alone that fit, or all, and with an aggregate that these are of;
 -- with the host that is asked about; with the text of a table of flavors, as rows or as metrics; with an answer of the service; with an aggregate as the zone of hosts;
 -- how a query is read, and the parameters of a query
 pub data Command : Type 0 where
@@ -19,7 +20,7 @@ pub data Command : Type 0 where
   fill : Bool → Command
   verify : List ℕ → Command
   explain : Command
-  hosts : Bool → Option ℕ → Command
+  hosts : Bool → Bool → Option ℕ → Command
   why : List ℕ → Command
   capacity : List ℕ → Bool → Command
   compare : List ℕ → Command
@@ -73,7 +74,7 @@ command_shown (variant.List after at traits) = list (option_map (λ t. t.now) af
 command_shown (variant.Fill sum) = fill sum
 command_shown (variant.Verify token) = verify token.now
 command_shown variant.Explain = explain
-command_shown (variant.Hosts sum within) = hosts sum within
+command_shown (variant.Hosts sum only_fitting within) = hosts sum only_fitting within
 command_shown (variant.Why host) = why host.now
 command_shown (variant.Capacity flavors metrics) = capacity flavors.now metrics
 command_shown (variant.Compare answer) = compare answer.now

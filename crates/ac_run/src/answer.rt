@@ -273,19 +273,20 @@ fn hosts_told(
     cloud: &Cloud,
     query: &Query,
     sum: bool,
+    only_fitting: bool,
     within: Option<u128>,
     fits: &[bool],
     lacks: &[Option<Lack>],
 ) -> Result<Vec<u8>, NoMemory>
     requires fits { fits.now ≡ fitting (providers_of cloud.now) (asked_of query.now) }
     requires lacks { lacks.now ≡ lacks_of (providers_of cloud.now) (asked_of query.now) }
-    ensures { IfOk result (λ text.
-        text.items ≡ hosts_told sum (providers_of cloud.now) (asked_of query.now) within) }
+    ensures { IfOk result (λ text. text.items ≡ hosts_told sum (providers_of cloud.now)
+        (asked_of query.now) only_fitting within) }
 {
     if sum {
-        sums_text(alloc, cloud, query, within, lacks)
+        sums_text(alloc, cloud, query, only_fitting, within, fits, lacks)
     } else {
-        hosts_text(alloc, cloud, query, within, fits, lacks)
+        hosts_text(alloc, cloud, query, only_fitting, within, fits, lacks)
     }
 }
 
@@ -296,18 +297,29 @@ fn write_hosts<W: Sink>(
     cloud: &Cloud,
     query: &Query,
     sum: bool,
+    only_fitting: bool,
     within: Option<u128>,
     tries: Option<u64>,
     out: &mut W,
 ) -> Result<u8, PageFault>
-    ensures { Delivers (host_rows (providers_of cloud.now) sum within (asked_of query.now) None)
+    ensures { Delivers (host_rows (providers_of cloud.now) sum only_fitting within
+        (asked_of query.now) None)
         (MayStop tries (providers_of cloud.now) (asked_of query.now) None)
         result
         (W.taken out.old) (W.taken out.new) (W.failures out.old) (W.failures out.new) }
 {
     let fits = fitting_roots(alloc, cloud, query, tries)?;
     let lacks = find_lacks(alloc, cloud, query, &fits)?;
-    let text = hosts_told(alloc, cloud, query, sum, within, &fits, &lacks)?;
+    let text = hosts_told(
+        alloc,
+        cloud,
+        query,
+        sum,
+        only_fitting,
+        within,
+        &fits,
+        &lacks,
+    )?;
     let status = hosts_status(alloc, cloud, query, within, &fits)?;
     push_text(out, &text, status)
 }
@@ -412,9 +424,16 @@ pub fn write_answer<W: Sink>(
             write_verdict(alloc, cloud, query, token, *detail, out)
         }
         Wanted::Explanation(question) => write_explanation(alloc, cloud, question, tries, out),
-        Wanted::Hosts(query, sum, within) => {
-            write_hosts(alloc, cloud, query, *sum, *within, tries, out)
-        }
+        Wanted::Hosts(query, sum, only_fitting, within) => write_hosts(
+            alloc,
+            cloud,
+            query,
+            *sum,
+            *only_fitting,
+            *within,
+            tries,
+            out,
+        ),
         Wanted::Why(query, host) => write_why(alloc, cloud, query, *host, tries, out),
         Wanted::Capacity(plans, metrics) => {
             write_capacity(alloc, cloud, plans, *metrics, tries, out)

@@ -38,9 +38,10 @@ pub enum Command<'a> {
     /// Writes how many providers and roots come how far, and whether there is a candidate.
     Explain,
     /// Writes at which roots candidates stand, and what the others lack, or how many of them lack what: of all roots, or of those of an aggregate, which is
-    /// named by its UUID as a number.
+    /// named by its UUID as a number; and of these those alone that fit, where only they are asked for.
     Hosts {
         sum: bool,
+        only_fitting: bool,
         within: Option<u128>,
     },
     /// Writes how far each provider of a host comes, and what it lacks. A host is a provider's UUID, or a name that no other provider has.

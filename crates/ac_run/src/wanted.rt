@@ -64,8 +64,8 @@ pub enum Wanted {
     Verdict(Query, Token, bool),
     /// How far a query comes.
     Explanation(Question),
-    /// Which roots fit, and what the others lack, or how many of them lack what: of all roots, or of those of an aggregate.
-    Hosts(Query, bool, Option<u128>),
+    /// Which roots fit, and what the others lack, or how many of them lack what; of those alone that fit, or of all; and of all roots, or of those of an aggregate.
+    Hosts(Query, bool, bool, Option<u128>),
     /// How far a query comes in the tree of a provider, which stands at this place.
     Why(Query, u32),
     /// How many of each flavor the cloud can hold: as rows, or as metrics.
@@ -250,7 +250,11 @@ fn wanted_of(alloc: Global, job: &Job, cloud: &Cloud, query: Query) -> Result<Wa
             Ok(Wanted::Verdict(query, token, job.detail.is_some()))
         }
         Command::Explain => Ok(Wanted::Explanation(read_question(alloc, query, job)?)),
-        Command::Hosts { sum, within } => Ok(Wanted::Hosts(query, sum, within)),
+        Command::Hosts {
+            sum,
+            only_fitting,
+            within,
+        } => Ok(Wanted::Hosts(query, sum, only_fitting, within)),
         Command::Why { host } => Ok(Wanted::Why(query, find_host(cloud, host)?)),
         Command::Capacity { metrics, .. } => Ok(Wanted::Capacity(Vec::new(alloc), metrics)),
         Command::Compare { answer } => {

@@ -216,6 +216,7 @@ static ANSWERS: [Case; 13] = [
     Case {
         command: Command::Hosts {
             sum: false,
+            only_fitting: false,
             within: None,
         },
         output: "root,name,fits,slot,lacks,asks,detail\n@1,,yes,,,,\n",
@@ -224,6 +225,7 @@ static ANSWERS: [Case; 13] = [
     Case {
         command: Command::Hosts {
             sum: true,
+            only_fitting: true,
             within: None,
         },
         output: "hosts,slot,lacks,asks\n1,,fits,\n",
@@ -323,7 +325,15 @@ fn with_text<'a>(command: Command<'static>, text: Option<&'a str>) -> Command<'a
             token: text.unwrap_or(""),
         },
         Command::Explain => Command::Explain,
-        Command::Hosts { sum, within } => Command::Hosts { sum, within },
+        Command::Hosts {
+            sum,
+            only_fitting,
+            within,
+        } => Command::Hosts {
+            sum,
+            only_fitting,
+            within,
+        },
         Command::Why { .. } => Command::Why {
             host: text.unwrap_or(""),
         },

@@ -451,6 +451,7 @@ fn question_by_name<'a>(version: Version, name: &str, rest: Option<&'a str>) -> 
         "hosts" => over_query(
             Command::Hosts {
                 sum: false,
+                only_fitting: false,
                 within: None,
             },
             version,

@@ -126,7 +126,7 @@ abbrev pub explain_app : App
 explain_app = with_search (query_app (codes "explain"))
 
 abbrev pub hosts_app : App
-hosts_app = with_format (with_rule (with_rule (with_search (query_app (codes "hosts"))) (option_rule (codes "in"))) (flag_rule (codes "sum")))
+hosts_app = with_format (with_rule (with_rule (with_rule (with_search (query_app (codes "hosts"))) (option_rule (codes "in"))) (flag_rule (codes "fits"))) (flag_rule (codes "sum")))
 
 abbrev pub why_app : App
 why_app = with_format (with_search (with_rule (query_app (codes "why")) (word_rule (codes "host"))))
@@ -402,6 +402,10 @@ traits_of rows = not (is_set (first_of (codes "no-traits") rows))
 abbrev pub sum_of : List Row → Bool
 sum_of rows = is_set (first_of (codes "sum") rows)
 
+-- whether of all roots those alone are asked for that fit
+abbrev pub fits_of : List Row → Bool
+fits_of rows = is_set (first_of (codes "fits") rows)
+
 -- an answer of the service, with its query, without the path of a URL before it
 abbrev pub asking_beside : List Row → Text → Option Call
 asking_beside rows path = option_map (λ query. beside path (past_mark query)) (first_of (codes "query") rows)
@@ -415,7 +419,7 @@ call_of name.List rows = asking rows (list (after_of rows) (at_of rows) (traits_
 call_of name.Fill rows = asking rows (fill (sum_of rows))
 call_of name.Verify rows = option_and_then (λ token. asking rows (verify token)) (first_of (codes "token") rows)
 call_of name.Explain rows = asking rows explain
-call_of name.Hosts rows = asking rows (hosts (sum_of rows) (within_in rows))
+call_of name.Hosts rows = asking rows (hosts (sum_of rows) (fits_of rows) (within_in rows))
 call_of name.Why rows = option_and_then (λ host. asking rows (why host)) (first_of (codes "host") rows)
 call_of name.Capacity rows = option_map (λ path. plan path (is_set (first_of (codes "prometheus") rows))) (first_of (codes "flavors") rows)
 call_of name.Compare rows = option_and_then (asking_beside rows) (first_of (codes "answer") rows)

@@ -89,8 +89,13 @@ is_within all (Some aggregate) r = meets_root all (id_at all r) (members_of all 
 abbrev pub roots_within : List Provider → Option ℕ → List ℕ
 roots_within all within = filter (is_within all within) (roots_in_order all)
 
-unfoldable pub hosts_text : List Provider → Asked → Option ℕ → List ℕ
-hosts_text all asked within = flat_map (row_text default_writer) (host_columns ∷ map (host_row all asked) (roots_within all within))
+-- these, or those of them alone that fit
+abbrev pub roots_told : List Provider → Asked → Bool → Option ℕ → List ℕ
+roots_told all asked false within = roots_within all within
+roots_told all asked true within = filter (fits_at all asked) (roots_within all within)
+
+unfoldable pub hosts_text : List Provider → Asked → Bool → Option ℕ → List ℕ
+hosts_text all asked fitting within = flat_map (row_text default_writer) (host_columns ∷ map (host_row all asked) (roots_told all asked fitting within))
 
 -- 0 where some of these roots fits, 1 where none does
 abbrev pub hosts_status : List Provider → Asked → Option ℕ → ℕ

@@ -1,5 +1,5 @@
 -- The text of `hosts --sum`: a header, a row for the roots that fit, and one for each thing that roots lack, with the number of roots.
-use Rattle.std.specs.Prelude.{ℕ, ◌+◌, ◌-◌, ◌*◌, ◌==◌, nat_lt, List, [], ◌∷◌, ◌++◌, map, length, codes, Option, None, Some}
+use Rattle.std.specs.Prelude.{ℕ, Bool, ◌+◌, ◌-◌, ◌*◌, ◌==◌, nat_lt, List, [], ◌∷◌, ◌++◌, map, length, codes, Option, None, Some}
 use Rattle.std.specs.Fmt.{decimal}
 use Rattle.std.specs.List.{filter, flat_map, range_with_len}
 use Rattle.csv.specs.Writing.{default_writer, row_text}
@@ -10,7 +10,7 @@ use Rattle.ac_find.specs.declared.lacks.Stage.{Stage}
 use Rattle.ac_find.specs.declared.lacks.Stage.TheVariants as stage
 use Rattle.ac_find.specs.declared.lacks.Lack.{Lack}
 use Rattle.ac_find.specs.declared.lacks.Lack.TheVariants as lack
-use Rattle.ac_report.specs.Findings.HostRows.{asks_of, lack_name, roots_within, slot_shown}
+use Rattle.ac_report.specs.Findings.HostRows.{asks_of, lack_name, roots_told, roots_within, slot_shown}
 
 -- ---- What roots may lack
 
@@ -43,9 +43,9 @@ lack_number (Some lack.RequiredTraits) = 2
 lack_number (Some lack.Together) = 3
 lack_number (Some (lack.Slot slot test)) = 6 * slot + stage_number test
 
--- what each root lacks, of all or of those of an aggregate
-abbrev pub lacks_of_roots : List Provider → Asked → Option ℕ → List (Option Lack)
-lacks_of_roots all asked within = map (lack_at all asked) (roots_within all within)
+-- what each of these roots lacks
+abbrev pub lacks_of_roots : List Provider → Asked → List ℕ → List (Option Lack)
+lacks_of_roots all asked roots = map (lack_at all asked) roots
 
 -- how many of these are this
 abbrev pub count_lacks : List (Option Lack) → Option Lack → ℕ
@@ -78,8 +78,9 @@ rows_falling asked sums most = flat_map (λ i. rows_of_count asked sums (most - 
 abbrev pub sum_rows : Asked → List (Option Lack) → List Lack → List (List (List ℕ))
 sum_rows asked found kinds = (sum_columns ∷ fits_row (count_lacks found None) ∷ []) ++ rows_falling asked (counted found kinds) (length found)
 
-unfoldable pub sums_text : List Provider → Asked → Option ℕ → List ℕ
-sums_text all asked within = flat_map (row_text default_writer) (sum_rows asked (lacks_of_roots all asked within) (possible_lacks (length (slots_of asked))))
+unfoldable pub sums_text : List Provider → Asked → Bool → Option ℕ → List ℕ
+sums_text all asked fitting within =
+    flat_map (row_text default_writer) (sum_rows asked (lacks_of_roots all asked (roots_told all asked fitting within)) (possible_lacks (length (slots_of asked))))
 
 -- ---- What is lacking, as one text
 
@@ -98,4 +99,4 @@ lack_told asked sum = (lack_text asked sum.0, sum.1)
 -- Each thing that roots lack, with the number of roots that lack it.
 unfoldable pub lack_counts : List Provider → Asked → List (List ℕ × ℕ)
 lack_counts all asked =
-    map (lack_told asked) (filter (λ sum. nat_lt 0 sum.1) (counted (lacks_of_roots all asked None) (possible_lacks (length (slots_of asked)))))
+    map (lack_told asked) (filter (λ sum. nat_lt 0 sum.1) (counted (lacks_of_roots all asked (roots_within all None)) (possible_lacks (length (slots_of asked)))))

@@ -12,7 +12,7 @@ ghost use Rattle.ac_report.specs.Findings.HostRows.{host_row, hosts_status, host
 
 use crate::findings::host_details::{asks_of, host_detail};
 use crate::findings::lacks::{lack_name, slot_digits};
-use crate::findings::within::roots_within;
+use crate::findings::within::{roots_told, roots_within};
 use crate::names::shown_name;
 use ac_base::NoMemory;
 use ac_base::rows::{begin_rows, end_rows, write_row};
@@ -68,22 +68,24 @@ fn write_root(
     )
 }
 
-/// The text of `hosts` of all roots, or of those of an aggregate alone, by which roots fit and what each lacks.
+/// The text of `hosts` of all roots, or of those of an aggregate alone, and of those that fit alone where only they are asked for, by which roots fit and what
+/// each lacks.
 #[tactic(auto, unfolding(crate::specs::Findings::HostRows::hosts_text))]
 pub fn hosts_text(
     alloc: Global,
     cloud: &Cloud,
     query: &Query,
+    only_fitting: bool,
     within: Option<u128>,
     fits: &[bool],
     lacks: &[Option<Lack>],
 ) -> Result<Vec<u8>, NoMemory>
     requires fits { fits.now ≡ fitting (providers_of cloud.now) (asked_of query.now) }
     requires lacks { lacks.now ≡ lacks_of (providers_of cloud.now) (asked_of query.now) }
-    ensures { IfOk result (λ text.
-        text.items ≡ hosts_text (providers_of cloud.now) (asked_of query.now) within) }
+    ensures { IfOk result (λ text. text.items
+        ≡ hosts_text (providers_of cloud.now) (asked_of query.now) only_fitting within) }
 {
-    let roots = roots_within(alloc, cloud, within)?;
+    let roots = roots_told(alloc, cloud, query, only_fitting, within, fits)?;
     let found = find_wanting(alloc, cloud, query, lacks)?;
     let unheld = find_unheld(alloc, cloud, query, lacks)?;
     let mut rows = begin_rows(

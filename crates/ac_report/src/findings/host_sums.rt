@@ -6,12 +6,13 @@ ghost use Rattle.ac_base.specs.Writing.Rows.{HasRows};
 ghost use Rattle.ac_cloud.specs.Cloud.CloudWorld.{providers_of};
 ghost use Rattle.ac_query.specs.Asked.{slots_of};
 ghost use Rattle.ac_query.specs.Shown.Queries.{asked_of};
+ghost use Rattle.ac_prune.specs.Fitting.{fitting};
 ghost use Rattle.ac_find.specs.Lacking.{lack_at, lacks_of};
 ghost use Rattle.ac_report.specs.Findings.HostSums.{count_lacks, counted, fits_row, lack_counts, lack_number, lack_text, lacks_of_roots, lacks_of_slot, possible_lacks, rows_falling, rows_of_count, stage_number, sum_row, sums_text};
 
 use crate::findings::host_details::asks_of;
 use crate::findings::lacks::{lack_name, slot_digits};
-use crate::findings::within::roots_within;
+use crate::findings::within::{roots_told, roots_within};
 use ac_base::NoMemory;
 use ac_base::pieces::digits::Digits;
 use ac_base::rows::{begin_rows, end_rows, write_row};
@@ -208,43 +209,49 @@ fn write_falling(
     Ok(())
 }
 
-// How many roots lack each thing, of all roots, or of those of an aggregate: what each of these lacks, and the sums.
+// How many of some roots lack each thing: what each of these lacks, and the sums.
 fn sums_of(
     alloc: Global,
     cloud: &Cloud,
     query: &Query,
-    within: Option<u128>,
+    roots: &[u32],
     lacks: &[Option<Lack>],
 ) -> Result<(Vec<Option<Lack>>, Vec<(Lack, u32)>), NoMemory>
-    requires { lacks.now ≡ lacks_of (providers_of cloud.now) (asked_of query.now) }
+    requires roots { All (λ r. r < length (providers_of cloud.now)) roots.now }
+    requires few { length roots.now < 2 ^ 32 }
+    requires lacks { lacks.now ≡ lacks_of (providers_of cloud.now) (asked_of query.now) }
     ensures found { IfOk result (λ sums. sums.0.items
-        ≡ lacks_of_roots (providers_of cloud.now) (asked_of query.now) within) }
+        ≡ lacks_of_roots (providers_of cloud.now) (asked_of query.now) roots.now) }
     ensures sums { IfOk result (λ sums. sums.1.items
-        ≡ counted (lacks_of_roots (providers_of cloud.now) (asked_of query.now) within)
+        ≡ counted (lacks_of_roots (providers_of cloud.now) (asked_of query.now) roots.now)
         (possible_lacks (length (slots_of (asked_of query.now))))) }
     ensures few { IfOk result (λ sums. length sums.0.items < 2 ^ 32) }
 {
-    let roots = roots_within(alloc, cloud, within)?;
-    let found = lacks_at(alloc, cloud, query, &roots, lacks)?;
+    let found = lacks_at(alloc, cloud, query, roots, lacks)?;
     let kinds = possible_lacks(alloc, count_slots(query))?;
     let sums = counted(alloc, &found, &kinds)?;
     Ok((found, sums))
 }
 
-/// The text of `hosts --sum` of all roots, or of those of an aggregate alone, by what each provider lacks as a root.
+/// The text of `hosts --sum` of all roots, or of those of an aggregate alone, and of those that fit alone where only they are asked for, by which roots fit and
+/// what each provider lacks as a root.
 #[tactic(auto, unfolding(crate::specs::Findings::HostSums::sums_text))]
 pub fn sums_text(
     alloc: Global,
     cloud: &Cloud,
     query: &Query,
+    only_fitting: bool,
     within: Option<u128>,
+    fits: &[bool],
     lacks: &[Option<Lack>],
 ) -> Result<Vec<u8>, NoMemory>
-    requires { lacks.now ≡ lacks_of (providers_of cloud.now) (asked_of query.now) }
-    ensures { IfOk result (λ text.
-        text.items ≡ sums_text (providers_of cloud.now) (asked_of query.now) within) }
+    requires fits { fits.now ≡ fitting (providers_of cloud.now) (asked_of query.now) }
+    requires lacks { lacks.now ≡ lacks_of (providers_of cloud.now) (asked_of query.now) }
+    ensures { IfOk result (λ text. text.items
+        ≡ sums_text (providers_of cloud.now) (asked_of query.now) only_fitting within) }
 {
-    let (found, sums) = sums_of(alloc, cloud, query, within, lacks)?;
+    let roots = roots_told(alloc, cloud, query, only_fitting, within, fits)?;
+    let (found, sums) = sums_of(alloc, cloud, query, &roots, lacks)?;
     let mut rows = begin_rows(alloc, &[b"hosts", b"slot", b"lacks", b"asks"])?;
     write_fits(&mut rows, count_lacks(&found, None))?;
     write_falling(alloc, &mut rows, query, &sums, found.len() as u32)?;
@@ -276,7 +283,8 @@ pub fn lack_counts(
     ensures { IfOk result (λ counts. map (λ c. (c.0.items, c.1)) counts.items
         ≡ lack_counts (providers_of cloud.now) (asked_of query.now)) }
 {
-    let (_found, sums) = sums_of(alloc, cloud, query, None, lacks)?;
+    let roots = roots_within(alloc, cloud, None)?;
+    let (_found, sums) = sums_of(alloc, cloud, query, &roots, lacks)?;
     let mut counts = Vec::new(alloc);
     for (kind, count) in &sums {
         if *count > 0 {

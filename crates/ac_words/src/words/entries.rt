@@ -141,8 +141,16 @@ fn call<'a>(name: Name, entries: &ArgMatches<'a>) -> Option<Call<'a>>
         Name::Explain => asking(entries, Command::Explain),
         Name::Hosts => {
             let sum = is_set(entries, "sum");
+            let only_fitting = is_set(entries, "fits");
             let within = within(entries);
-            asking(entries, Command::Hosts { sum, within })
+            asking(
+                entries,
+                Command::Hosts {
+                    sum,
+                    only_fitting,
+                    within,
+                },
+            )
         }
         Name::Why => {
             let host = entry(entries, "host")?;

@@ -426,6 +426,11 @@ fn hosts<'a>(alloc: Global) -> Result<Command<'a>, AllocError>
     ))?;
     let command = command.arg(flag(
         alloc,
+        "fits",
+        "Writes of those roots alone at which it fits",
+    ))?;
+    let command = command.arg(flag(
+        alloc,
         "sum",
         "Writes how many roots lack what, in place of a row for each",
     ))?;
