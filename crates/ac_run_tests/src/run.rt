@@ -162,6 +162,7 @@ struct Case {
     command: Command<'static>,
     query: &'static str,
     version: Version,
+    names: Option<&'static [u8]>,
     output: &'static str,
     line: &'static str,
     status: u8,
@@ -176,6 +177,7 @@ const TOKENS: Case = Case {
     },
     query: "resources=VCPU:2",
     version: Version::V136,
+    names: None,
     output: "",
     line: "",
     status: 0,
@@ -364,7 +366,7 @@ fn left_by(rt: &(impl Abort + AllocGlobal), case: &Case, turns: Turns) -> Result
         version: case.version,
         tries: None,
         changes: None,
-        names: None,
+        names: case.names,
         detail: if turns.detail { Some(&PATHS) } else { None },
     };
     run_over(alloc, &case.rows, &job, turns)

@@ -39,6 +39,12 @@ use Rattle.ac_session.specs.declared.turns.terms.Terms as rust
 abbrev pub Amount : Type 0
 Amount = ℕ → List ℕ → UsedInventory → ℕ
 
+-- what each turn keeps is kept behind lines
+pub lines_keep : (P : Held → Type 0) (terms : Terms) → ((held : Held) (given : Given) → P held → P (turn_of terms held given).state)
+    → (held : Held) (lines : List Given) → P held → P (held_behind terms held lines)
+lines_keep P terms turn held [] known = known
+lines_keep P terms turn held (given ∷ others) known = lines_keep P terms turn (turn_of terms held given).state others (turn held given known)
+
 -- ---- other amounts alone
 
 -- a world is another with these amounts in use
@@ -161,8 +167,7 @@ module _ (first : World) where
     turn_using held end known = known
 
     pub lines_using : (held : Held) (lines : List Given) → IsUsing first held.world → IsUsing first (held_behind terms held lines).world
-    lines_using held [] known = known
-    lines_using held (given ∷ others) known = lines_using (turn_of terms held given).state others (turn_using held given known)
+    lines_using held lines known = lines_keep (λ held. IsUsing first held.world) terms turn_using held lines known
 
 -- so what names stand for stays known, whether its search stopped or not
 pub known_behind : (t : rust.Terms) (held : Held) (stop : Option (List ℕ)) (given : Given) (now : Held) → now ≡ (turn_at (terms_of t) held stop given).state → Knows t held.world → Knows t now.world

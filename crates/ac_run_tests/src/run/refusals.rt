@@ -231,3 +231,34 @@ static WHAT_TO_DO: [Case; 6] = [
 fn what_to_do(rt: HostRuntime) {
     check_all(&rt, &WHAT_TO_DO, DETAILED);
 }
+
+// Flavors whose queries have the name of an aggregate.
+const BY_NAMES: Case = Case {
+    rows: Rows {
+        aggregates: "@1,@a\n",
+        ..ONE
+    },
+    command: Command::Capacity {
+        flavors: b"flavor,query\na,resources=VCPU:3&member_of=az\n",
+        metrics: false,
+    },
+    names: Some(b"uuid,name\n00000000-0000-0000-0000-00000000000a,az\n"),
+    output: "flavor,hosts,at_least,at_most,wanted,short_of,short_at\na,1,2,2,1,VCPU,1\n",
+    ..TOKENS
+};
+
+static FLAVORS_BY_NAMES: [Case; 2] = [
+    BY_NAMES,
+    Case {
+        names: Some(b"uuid,name\n"),
+        output: "",
+        line: "flavors: record 1: UnknownName\n",
+        status: 4,
+        ..BY_NAMES
+    },
+];
+
+#[test]
+fn flavors_by_names(rt: HostRuntime) {
+    check_all(&rt, &FLAVORS_BY_NAMES, SOUND);
+}

@@ -34,7 +34,7 @@ use Rattle.ac_rules.specs.declared.verdict.Verdict.TheVariants as verdict
 use Rattle.ac_run.specs.Answer.{Outcome, at_host, on_host, refused, root_found, root_named, told}
 use Rattle.ac_run.specs.Lines.{query_line, token_line}
 use Rattle.ac_run.specs.declared.refusal.NamesRefusal.{NamesRefusal}
-use Rattle.ac_session.proofs.Differing.{IsUsing, Amount, by_ids_stay, restored_kept, turn_using, using_same}
+use Rattle.ac_session.proofs.Differing.{IsUsing, Amount, by_ids_stay, lines_keep, restored_kept, turn_using, using_same}
 use Rattle.ac_session.proofs.FirstPlaced.{first_found, head_candidate}
 use Rattle.ac_session.proofs.UsageRows.Accepted.{each_accepted}
 use Rattle.ac_session.proofs.UsageRows.Amounts.{gathered_stated}
@@ -345,16 +345,12 @@ module _ (first : World) (terms : Terms) (held : Held) (known : NeverOverbooks f
   turn_fine too_long = known
   turn_fine end = known
 
-lines_fine : (first : World) (terms : Terms) (held : Held) (lines : List Given) → NeverOverbooks first held → NeverOverbooks first (held_behind terms held lines)
-lines_fine first terms held [] known = known
-lines_fine first terms held (given ∷ others) known = lines_fine first terms (turn_of terms held given).state others (turn_fine first terms held known given)
-
 pub sessions_never_overbook : SessionsNeverOverbook
 unfolding world_stated
 sessions_never_overbook terms tables lines accepted =
     let first = world_stated tables in
     let ids = ids_of tables.providers in
-    (lines_fine first terms (unnamed first) lines (record {
+    (lines_keep (NeverOverbooks first) terms (λ held given known. turn_fine first terms held known given) (unnamed first) lines (record {
       using = using_same first;
       sorted = classes_in_order tables (each_accepted tables accepted) ids first.providers (gathered_stated tables ids);
       bound = λ ix class had found over. rw found (omega arith);
