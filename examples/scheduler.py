@@ -68,7 +68,7 @@ class Scheduler:
 
     def choose(self, query):
         """The root with the best room of those that fit; None where none fits."""
-        fit = [host.root for host in self.session.hosts(query) if host.fits]
+        fit = [host.root for host in self.session.hosts(query, fits=True)]
         asked = asked_by(query) if fit else {}
         return self.best(fit, key=lambda root: self.room(root, asked), default=None)
 

@@ -72,10 +72,10 @@ REFUSED = [
     ('audit x', ended('', 2, NUMBER)),
     ('check ', ended('', 2, NUMBER)),
     ('check x', ended('', 2, NUMBER)),
-    *((command, ended('', 2, NUMBER)) for command in ('candidates', 'tokens', 'list', 'fill', 'place', 'count', 'verify', 'explain', 'hosts', 'why', 'claim',
+    *((command, ended('', 2, NUMBER)) for command in ('candidates', 'tokens', 'list', 'fill', 'place', 'count', 'verify', 'explain', 'hosts', 'fits', 'why', 'claim',
                                                       'release', 'move')),
     *((f'{command} {TWO}', ended('', 2, NUMBER)) for command in ('verify', 'why', 'claim', 'move')),
-    *((f'{command} {TWO} P1', ended('', 2, NUMBER)) for command in ('fill', 'count', 'explain', 'hosts')),
+    *((f'{command} {TWO} P1', ended('', 2, NUMBER)) for command in ('fill', 'count', 'explain', 'hosts', 'fits')),
     *((f'{command} {TWO} P1 P1', ended('', 2, NUMBER)) for command in ('candidates', 'tokens', 'list', 'place', 'verify', 'why', 'release', 'move')),
     # A name isn't empty, and a host stands behind `at`, as the last word.
     *((f'place {TWO}{more}', ended('', 2, NUMBER)) for more in (' ', '  ', '  at P1', '  P1', ' at P1 P1', ' another at P1 P1', ' another P1 at',
@@ -97,6 +97,7 @@ REFUSED = [
     (f'list --no-traits {TWO} P1', ended('', 2, NUMBER)),
     (f'fill --sum {TWO}', ended('', 2, NUMBER)),
     (f'hosts --sum {TWO}', ended('', 2, NUMBER)),
+    (f'hosts --fits {TWO}', ended('', 2, NUMBER)),
     (f'tokens {TWO} ', ended('', 5, 'token: BadToken')),
     (f'tokens  {TWO}', ended('', 4, 'query: NoResources')),
     ('tokens ', ended('', 4, 'query: NoResources')),
@@ -213,6 +214,8 @@ PLACED = [
     ('usages', ended(HEADERS['usages'] + 'P2,VCPU,3\n', 0)),
     (f'release {TWO}&required=CUSTOM_A P2', ended('released\n', 0)),
     (f'hosts resources=VCPU:8', ended('root,name,fits,slot,lacks,asks,detail\nP1,,yes,,,,\n', 0)),
+    (f'fits resources=VCPU:8', ended('root,name,fits,slot,lacks,asks,detail\nP1,,yes,,,,\n', 0)),
+    (f'fits resources=VCPU:9', ended('root,name,fits,slot,lacks,asks,detail\n', 1)),
 ]
 
 # What may be asked, in words.
@@ -223,6 +226,7 @@ candidates QUERY [TOKEN] [at HOST]  the same as JSON, with summaries of their pr
 list QUERY [TOKEN] [at HOST]        the same as a table
 explain QUERY                       how far the query comes, and why there is no candidate
 hosts QUERY                         which roots fit, and what the others lack
+fits QUERY                          the same of those that fit alone
 why QUERY HOST                      what the providers of a host lack
 verify QUERY TOKEN                  whether a token is a candidate
 count QUERY                         how many more of the same fit
@@ -844,8 +848,8 @@ def answer(command, asked, assignment, cloud):
         return f'no: rule {rule} {RULES[rule - 1]}\n' if rule else 'candidate\n', 1 if rule else 0
     if command == 'explain':
         return explanation(found, query, cloud), none
-    if command == 'hosts':
-        return host_rows(found, text, query, cloud), none
+    if command in ('hosts', 'fits'):
+        return host_rows(found, text, query, cloud, fitting=command == 'fits'), none
     if command == 'count':
         return sum_text(len(filled(query, cloud)), *bound(found, query, cloud)), none
     rows = why_rows(assignment[0].root(), found, text, query, cloud)
@@ -900,7 +904,7 @@ def draw_move(chance, cloud, named):
     return line, ended(*move(name, target, named, cloud))
 
 
-JOBS = 'tokens', 'tokens after', 'tokens at', 'list at', 'candidates', 'list', 'count', 'verify', 'explain', 'hosts', 'why'
+JOBS = 'tokens', 'tokens after', 'tokens at', 'list at', 'candidates', 'list', 'count', 'verify', 'explain', 'hosts', 'fits', 'why'
 KINDS = ('job', 'job', 'claim', 'claim', 'claim as', 'claim as', 'claim as', 'place', 'place', 'place', 'release', 'release', 'release name', 'move', 'move',
          'move', 'fill', 'mark', 'mark', 'back', 'back', 'usages', 'left', 'fault')
 NAMES = 'one', 'two', '=', 'at'

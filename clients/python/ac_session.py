@@ -99,7 +99,7 @@ class Session:
         ['compute-02']
 
         >>> with Session('examples/cloud', change=['remove compute-02']) as session:
-        ...     [host.name for host in session.hosts('resources=VCPU:2') if host.fits]
+        ...     [host.name for host in session.hosts('resources=VCPU:2', fits=True)]
         ['compute-01']
         """
         self._errors, self._changes = tempfile.TemporaryFile('w+'), tempfile.NamedTemporaryFile('w', encoding='utf-8')
@@ -189,13 +189,13 @@ class Session:
         ['allocation_requests', 'provider_summaries']"""
         return json.loads('\n'.join(self.ask('candidates', query, *filter(None, [after, at and 'at', at])).lines))
 
-    def hosts(self, query: str) -> List[Host]:
-        """Which roots fit, and what the others lack.
+    def hosts(self, query: str, fits: bool = False) -> List[Host]:
+        """Which roots fit, and what the others lack; or those alone that fit.
 
         >>> with Session('examples/cloud') as session:
-        ...     [host.name for host in session.hosts('resources=VCPU:8') if host.fits]
+        ...     [host.name for host in session.hosts('resources=VCPU:8', fits=True)]
         ['compute-01']"""
-        _, *rows = csv.reader(self.ask('hosts', query).lines)
+        _, *rows = csv.reader(self.ask('fits' if fits else 'hosts', query).lines)
         return [Host(root, name, fits == 'yes', *more) for root, name, fits, *more in rows]
 
     def explain(self, query: str) -> List[str]:

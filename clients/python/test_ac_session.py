@@ -32,7 +32,7 @@ with Session(CLOUD, program=PROGRAM) as session:
     before, most = session.usages(), session.count(VCPU)
     placed = list(iter(lambda: session.place(VCPU + '&limit=7'), None))
     assert most == Count(len(placed), len(placed), {'VCPU': 2}), most
-    assert session.tokens(VCPU) == [] and not any(host.fits for host in session.hosts(VCPU))
+    assert session.tokens(VCPU) == [] and not any(host.fits for host in session.hosts(VCPU)) and session.hosts(VCPU, fits=True) == []
     assert session.explain(VCPU)[-1].endswith('has room for it') and session.why(VCPU, 'compute-02')[-1]['slot'] == 'verdict'
     assert session.claim(VCPU, placed[0].token) is None
     assert all(session.release(one) for one in placed) and session.usages() == before

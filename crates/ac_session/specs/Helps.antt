@@ -10,6 +10,7 @@ help_lines =
     ∷ codes "list QUERY [TOKEN] [at HOST]        the same as a table\n"
     ∷ codes "explain QUERY                       how far the query comes, and why there is no candidate\n"
     ∷ codes "hosts QUERY                         which roots fit, and what the others lack\n"
+    ∷ codes "fits QUERY                          the same of those that fit alone\n"
     ∷ codes "why QUERY HOST                      what the providers of a host lack\n"
     ∷ codes "verify QUERY TOKEN                  whether a token is a candidate\n"
     ∷ codes "count QUERY                         how many more of the same fit\n"

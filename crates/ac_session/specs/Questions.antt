@@ -179,6 +179,7 @@ asked_by_name version name rest =
     else if bytes_eq name (codes "verify") then asks_about verify version words
     else if bytes_eq name (codes "explain") then asks_query explain version words
     else if bytes_eq name (codes "hosts") then asks_query (hosts false false None) version words
+    else if bytes_eq name (codes "fits") then asks_query (hosts false true None) version words
     else if bytes_eq name (codes "why") then asks_about why version words
     else if bytes_eq name (codes "audit") then asks_alone (words_behind rest) (asks_job (task.audit None) [] V136)
     else if bytes_eq name (codes "claim") then asks_claim words

@@ -18,6 +18,7 @@ pub(crate) fn push_help<W: Sink>(out: &mut W) -> Result<(), WriteFailed>
             b"list QUERY [TOKEN] [at HOST]        the same as a table\n",
             b"explain QUERY                       how far the query comes, and why there is no candidate\n",
             b"hosts QUERY                         which roots fit, and what the others lack\n",
+            b"fits QUERY                          the same of those that fit alone\n",
             b"why QUERY HOST                      what the providers of a host lack\n",
             b"verify QUERY TOKEN                  whether a token is a candidate\n",
             b"count QUERY                         how many more of the same fit\n",

@@ -457,6 +457,15 @@ fn question_by_name<'a>(version: Version, name: &str, rest: Option<&'a str>) -> 
             version,
             rest,
         ),
+        "fits" => over_query(
+            Command::Hosts {
+                sum: false,
+                only_fitting: true,
+                within: None,
+            },
+            version,
+            rest,
+        ),
         "why" => why(version, rest),
         "audit" => alone(job(Command::Audit { zone: None }, "", Version::V136), rest),
         "claim" => claim(rest),
