@@ -40,7 +40,7 @@ MOST_DAYS = 30
 # A check that begins beside others needs so much free memory.
 LEAST_FREE = 4 << 30
 # How many seconds a check is expected to last before one has ended.
-LONG_CHECK = 240.0
+LONG_CHECK = 600.0
 # The prover can't read the text of an edit.
 UNREAD = re.compile(r'^(\./)?(src|specs)/\S+: error: .*(is not in scope|has no field|is no name|operand is missing|expected the end|cannot continue)', re.M)
 # What a function's proof file cites is gone.
