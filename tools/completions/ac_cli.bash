@@ -38,7 +38,7 @@ _ac_cli() {
         fill) offered='--tables --providers --inventories --usages --traits --aggregates --change --detail --microversion --tries --names --sum --help' ;;
         verify) offered='--tables --providers --inventories --usages --traits --aggregates --change --detail --microversion --names --help' ;;
         explain) offered='--tables --providers --inventories --usages --traits --aggregates --change --detail --microversion --tries --names --help' ;;
-        hosts) offered='--tables --providers --inventories --usages --traits --aggregates --change --detail --microversion --tries --names --in --sum --format --help' ;;
+        hosts) offered='--tables --providers --inventories --usages --traits --aggregates --change --detail --microversion --tries --names --in --fits --sum --format --help' ;;
         why) offered='--tables --providers --inventories --usages --traits --aggregates --change --detail --microversion --tries --names --format --help' ;;
         capacity) offered='--tables --providers --inventories --usages --traits --aggregates --change --detail --microversion --tries --names --prometheus --format --help' ;;
         compare) offered='--tables --providers --inventories --usages --traits --aggregates --change --detail --microversion --tries --names --help' ;;
