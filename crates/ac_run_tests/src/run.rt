@@ -162,7 +162,7 @@ struct Case {
     command: Command<'static>,
     query: &'static str,
     version: Version,
-    names: Option<&'static [u8]>,
+    names: Option<&'static str>,
     output: &'static str,
     line: &'static str,
     status: u8,
@@ -355,18 +355,27 @@ fn written_out(alloc: Global, text: Option<&str>) -> Result<Option<String>, Allo
     }
 }
 
+// The bytes of a text, where there is one.
+fn bytes_of(text: &Option<String>) -> Option<&[u8]> {
+    match text {
+        Some(text) => Some(text.as_bytes()),
+        None => None,
+    }
+}
+
 // What a run of a case leaves.
 fn left_by(rt: &(impl Abort + AllocGlobal), case: &Case, turns: Turns) -> Result<Left, AllocError> {
     let alloc = rt.alloc();
     let query = expanded(alloc, case.query)?;
     let text = written_out(alloc, text_in(case.command))?;
+    let names = written_out(alloc, case.names)?;
     let job = Job {
         command: with_text(case.command, text.as_deref()),
         query: query.as_str(),
         version: case.version,
         tries: None,
         changes: None,
-        names: case.names,
+        names: bytes_of(&names),
         detail: if turns.detail { Some(&PATHS) } else { None },
     };
     run_over(alloc, &case.rows, &job, turns)

@@ -242,7 +242,7 @@ const BY_NAMES: Case = Case {
         flavors: b"flavor,query\na,resources=VCPU:3&member_of=az\n",
         metrics: false,
     },
-    names: Some(b"uuid,name\n00000000-0000-0000-0000-00000000000a,az\n"),
+    names: Some("uuid,name\n@a,az\n"),
     output: "flavor,hosts,at_least,at_most,wanted,short_of,short_at\na,1,2,2,1,VCPU,1\n",
     ..TOKENS
 };
@@ -250,7 +250,7 @@ const BY_NAMES: Case = Case {
 static FLAVORS_BY_NAMES: [Case; 2] = [
     BY_NAMES,
     Case {
-        names: Some(b"uuid,name\n"),
+        names: Some("uuid,name\n"),
         output: "",
         line: "flavors: record 1: UnknownName\n",
         status: 4,
