@@ -275,7 +275,7 @@ LINES = 'tokens', 'fill', 'place'
 def is_kept(line, told, own):
     """Whether a line of a session may be asked by names: its fault is none of a token, and nothing of its output is a name of a provider."""
     command, *words = line.split(' ')
-    if own and command in ('hosts', 'why', 'list', 'left', 'explain'):
+    if own and command in ('hosts', 'fits', 'why', 'list', 'left', 'explain'):
         return False
     return 'token: BadToken' not in told and 'host: ' not in told and 'query: ' not in told and not (command == 'move' and words[1:] == ['x'])
 
