@@ -252,7 +252,7 @@ static FLAVORS_BY_NAMES: [Case; 2] = [
     Case {
         names: Some("uuid,name\n"),
         output: "",
-        line: "flavors: record 1: UnknownName\n",
+        line: "flavors: record 2: UnknownName\n",
         status: 4,
         ..BY_NAMES
     },
