@@ -1,20 +1,20 @@
 -- What a claim leaves of what providers have, and how often they have what is wanted.
-use Rattle.std.proofs.Common.{◌≡◌, ◌∙◌, ◌<◌, ◌≤◌, ◌+◌, ◌-◌, ◌/◌, ◌&&◌, ℕ, suc, Bool, true, not, List, [], ◌∷◌, length, Option, None, Some, refl, sym, ap, ap₂, subst, arith, inl, inr, option_map, unwrap_or, bytes_eq, is_none, is_some}
+use Rattle.std.proofs.Common.{◌≡◌, ◌∙◌, ◌<◌, ◌≤◌, ◌+◌, ◌-◌, ◌/◌, ◌&&◌, ℕ, suc, Bool, true, not, List, [], ◌∷◌, length, Option, None, Some, refl, sym, ap, ap₂, subst, arith, inl, inr, nat_le, option_map, unwrap_or, bytes_eq, is_none, is_some}
 use Rattle.std.specs.List.{list_all, list_any, sum_by, filter, range_with_len}
 use Rattle.std.proofs.Math.Path.{fun_ext}
-use Rattle.std.proofs.lemmas.Bool.{and_parts, cases_Bool, eq-eqb, false≢true}
+use Rattle.std.proofs.lemmas.Bool.{and_parts, cases_Bool, cases_lt, eq-eqb, false≢true}
 use Rattle.std.proofs.lemmas.Bool.Decides.{nat_tests}
 use Rattle.std.proofs.lemmas.List.Elements.{All-head, All-tail}
 use Rattle.std.proofs.lemmas.List.Sums.{sum_by-cons, sum_by-le-sum_by}
 use Rattle.std.proofs.lemmas.Nat.{le-div}
 use Rattle.std.proofs.lemmas.Slice.Eq.{bytes_eq-Decides}
 use Rattle.std.proofs.Math.Nat.{div-mul-le_self, suc-mul}
-use Rattle.ac_cloud.specs.World.{Provider, UsedInventory, entry_in, id_at, is_root, left_of, provider_at}
+use Rattle.ac_cloud.specs.World.{Provider, UsedInventory, entry_in, id_at, is_root, left_of, provider_at, used_of}
 use Rattle.ac_cloud.specs.Laws.{DifferInAmounts}
-use Rattle.ac_cloud.proofs.Amounts.{amounts_again, amounts_same, entries}
+use Rattle.ac_cloud.proofs.Amounts.{amounts_again, amounts_kept, amounts_same, amounts_same_found, entries}
 use Rattle.ac_prune.specs.Ahead.{hosts_of}
 use Rattle.ac_query.specs.Asked.{Asked, Slot}
-use Rattle.ac_rules.specs.Claims.{claimed}
+use Rattle.ac_rules.specs.Claims.{claimed, is_in_use, released, uses_sums}
 use Rattle.ac_rules.specs.Lists.{IsListBelow}
 use Rattle.ac_rules.specs.Own.{units_fit, traits_fit, aggregates_fit, tree_fits, fits}
 use Rattle.ac_rules.specs.Placed.{Placed, assigned, placed}
@@ -23,9 +23,9 @@ use Rattle.ac_rules.specs.Judge.{is_candidate}
 use Rattle.ac_rules.proofs.Elements.{Among}
 use Rattle.ac_rules.proofs.EachSlot.ClaimLaws as kept
 use Rattle.ac_rules.proofs.EachSlot.FrontLemmas.{candidate_opens}
-use Rattle.ac_rules.proofs.EachSlot.FullLemmas.{full_from}
+use Rattle.ac_rules.proofs.EachSlot.FullLemmas.{asked_from, full_from}
 use Rattle.ac_fill.specs.Bounds.{Want, units_of, times_at, times}
-use Rattle.ac_fill.specs.Laws.{ClaimsCommute, IsWithin, NeverOverbooks}
+use Rattle.ac_fill.specs.Laws.{ClaimUndoes, ClaimsCommute, IsWithin, NeverOverbooks}
 use Rattle.std.proofs.lemmas.Grind.{common_steps}
 
 abbrev pub Need : Type 0
@@ -187,3 +187,18 @@ unfolding claimed
 claims_commute all xs ys =
     let one : List Placed → ℕ → List ℕ → UsedInventory → ℕ = λ zs ix class had. had.used + sum_on zs ix class in
     amounts_again (one xs) (one ys) all ∙ amounts_same _ _ all (λ ix class had. omega arith) ∙ sym (amounts_again (one ys) (one xs) all)
+
+-- where an inventory is, as much of it is used as all slots ask
+in_use_at : (all : List Provider) (xs : List Placed) (ix : ℕ) (class : List ℕ) (had : UsedInventory) → is_in_use all xs ≡ true → entry_in (provider_at all ix) class ≡ Some had
+    → had.used - sum_on xs ix class + sum_on xs ix class ≡ had.used
+unfolding is_in_use uses_sums
+in_use_at all xs ix class had used found = elim (cases_lt 0 (sum_on xs ix class)) [
+  | inl some ↦ let enough = rw found at (asked_from (λ p c. nat_le (sum_on xs p c) (used_of (provider_at all p) c)) xs used ix class some) in grind (arith, nat_tests)
+  | inr none ↦ omega (arith, none)
+]
+
+pub claim_undoes : ClaimUndoes
+unfolding claimed released
+claim_undoes all xs rise used =
+    amounts_again (λ ix class had. had.used - sum_on xs ix class) (λ ix class had. had.used + sum_on xs ix class) all
+    ∙ amounts_same_found _ (λ ix class had. had.used) all rise (λ ix class had inside found. in_use_at all xs ix class had used found) ∙ amounts_kept all

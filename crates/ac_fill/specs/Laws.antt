@@ -1,14 +1,17 @@
 -- What holds of placements.
 use Rattle.std.specs.Prelude.{◌≡◌, ◌<◌, ◌≤◌, ℕ, true, false, List, [], ◌∷◌, length, map, take, ⊤, Option, Some, None}
 use Rattle.std.specs.List.{AllByRecursion}
+use Rattle.std.specs.List.Sorted.{IsStrictlySortedBy}
+use Rattle.std.specs.Map.{keys_of}
 use Rattle.ac_base.specs.Quantities.{capacity}
+use Rattle.ac_base.specs.Texts.{text_cmp}
 use Rattle.ac_cloud.specs.World.{Provider, UsedInventory, entry_in, provider_at}
 use Rattle.ac_query.specs.declared.version.Version.{Version}
 use Rattle.ac_query.specs.Asked.{Asked, slots_of}
 use Rattle.ac_query.specs.Faults.{query_fault}
 use Rattle.ac_query.specs.Laws.Gathered.{asked_by}
 use Rattle.ac_query.specs.Pairs.{pairs_of}
-use Rattle.ac_rules.specs.Claims.{claimed}
+use Rattle.ac_rules.specs.Claims.{claimed, is_in_use, released}
 use Rattle.ac_rules.specs.Judge.{is_candidate}
 use Rattle.ac_rules.specs.Laws.{AreInOrder}
 use Rattle.ac_rules.specs.Lists.{IsListBelow, lex_lt, head_of}
@@ -56,6 +59,14 @@ NeverOverbooks = (all : List Provider) (asked : Asked) (t : List ℕ) → is_can
 -- two claims leave the same world in either order
 abbrev pub ClaimsCommute : Type 0
 ClaimsCommute = (all : List Provider) (xs ys : List Placed) → claimed (claimed all xs) ys ≡ claimed (claimed all ys) xs
+
+-- the classes of each provider rise, as those of a cloud do
+abbrev pub ClassesRise : List Provider → Type 0
+ClassesRise all = (ix : ℕ) → ix < length all → IsStrictlySortedBy text_cmp (keys_of (provider_at all ix).entries)
+
+-- what is released, and claimed again, leaves all as it was, if it was in use
+abbrev pub ClaimUndoes : Type 0
+ClaimUndoes = (all : List Provider) (xs : List Placed) → ClassesRise all → is_in_use all xs ≡ true → claimed (released all xs) xs ≡ all
 
 -- each query that is accepted asks for an amount of a class
 abbrev pub AcceptedAsk : Type 0

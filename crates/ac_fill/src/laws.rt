@@ -1,6 +1,6 @@
 //! What holds of placements: each function's contract is a law, and no program calls it.
 
-ghost use Rattle.ac_fill.specs.Laws.{AcceptedAsk, ClaimsCommute, FillsFirstFits, FillsInOrder, FillsUp, FillsWithin, LimitTakesFirst, NeverOverbooks, NoneIsLonger};
+ghost use Rattle.ac_fill.specs.Laws.{AcceptedAsk, ClaimUndoes, ClaimsCommute, FillsFirstFits, FillsInOrder, FillsUp, FillsWithin, LimitTakesFirst, NeverOverbooks, NoneIsLonger};
 
 /// Each placement is the first candidate in the world that the ones before it left.
 #[tactic(auto, using(crate::proofs::Ordered::fills_first_fits))]
@@ -36,6 +36,12 @@ pub fn never_overbooks()
 #[tactic(auto, using(crate::proofs::Claimed::claims_commute))]
 pub fn claims_commute()
     ensures { ClaimsCommute }
+{}
+
+/// What is released, and claimed again, leaves all as it was, if it was in use.
+#[tactic(auto, using(crate::proofs::Claimed::claim_undoes))]
+pub fn claim_undoes()
+    ensures { ClaimUndoes }
 {}
 
 /// Each query that is accepted asks for an amount of a class, so placements take room, and end.

@@ -1,13 +1,13 @@
 -- Counts of providers and of roots: one more place, and what the marks of roots say.
-use Rattle.std.proofs.Common.{inl, inr, ◌≡◌, ◌∙◌, ◌<◌, ◌≤◌, ℕ, ◌+◌, Bool, true, false, ◌&&◌, List, [], ◌∷◌, length, map, max, nat_le, slice_index, slice_index_or, Option, Some, None, refl, sym, ap, ap₂, arith}
+use Rattle.std.proofs.Common.{inl, inr, ◌≡◌, ◌∙◌, ◌<◌, ◌≤◌, ℕ, ◌+◌, Bool, true, false, ◌&&◌, ◌||◌, List, [], ◌∷◌, drop, length, map, max, nat_le, slice_index, slice_index_or, Option, Some, None, refl, sym, ap, ap₂, arith}
 use Rattle.std.specs.Prelude.{if◌then◌else◌, take}
 use Rattle.std.specs.List.{filter, list_all, list_any, range_with_len, AllByRecursion as Each}
 use Rattle.std.specs.Option.{is_some}
 use Rattle.std.proofs.Math.Bool.{and-true}
 use Rattle.std.proofs.lemmas.Bool.{cases_Bool, false≢true}
 use Rattle.std.proofs.lemmas.Bool.Decides.{nat_tests}
-use Rattle.std.proofs.lemmas.List.{length-append}
-use Rattle.std.proofs.lemmas.List.Folds.{list_all_more}
+use Rattle.std.proofs.lemmas.List.{length-append, take-append-drop}
+use Rattle.std.proofs.lemmas.List.Folds.{list_all-append, list_all_more}
 use Rattle.std.proofs.lemmas.List.FromFn.{fill_by_all, get_or-map-range_with_len, length-map-range_with_len, length-range_with_len, map-range_with_len_more}
 use Rattle.std.proofs.lemmas.List.Sums.{fold-append}
 use Rattle.ac_base.specs.Quantities.{InventoryNumbers}
@@ -117,6 +117,20 @@ served_one all slot before rooms old new room was size limited =
     fill_by_all (λ r. before r && is_served all r slot) new n false (size ∙ (ap length was ∙ length-map-range_with_len before 0 n))
     (served_at all slot before rooms old new room was limited)
 
+both_less : (takes a b more : Bool) → b ≡ (a && more) → (takes && a) ≡ false → (takes && b) ≡ false
+both_less takes a b more is none = grind (arith, is, none)
+
+-- where none passes a test, none passes one that is stronger
+no_more : (f g : ℕ → Bool) (rs : List ℕ) → ((r : ℕ) → f r ≡ false → g r ≡ false) → list_any (λ mark. mark) (map f rs) ≡ false → map f rs ≡ map g rs
+no_more f g [] less h = refl
+no_more f g (r ∷ rs) less h =
+    let here = or_left_none (f r) (list_any (λ mark. mark) (map f rs)) h in
+    ap₂ (λ b bs. b ∷ bs) (here.0 ∙ sym (less r here.0)) (no_more f g rs less here.1)
+  where
+    or_left_none : (a b : Bool) → (a || b) ≡ false → (a ≡ false) × (b ≡ false)
+    or_left_none true b h = absurd (false≢true (sym h))
+    or_left_none false b h = (refl, h)
+
 -- one more slot
 pub served_more : (all : List Provider) (asked : Asked) (s : ℕ) (rooms : List ℕ) (old new : List Bool) → s < length (slots_of asked) → rooms ≡ served all (slot_at asked s)
     → old ≡ served_roots all asked (take s (slots_of asked)) → length new ≡ length old → AreLimited all rooms 1 old new → new ≡ served_roots all asked (take (s + 1) (slots_of asked))
@@ -128,6 +142,15 @@ served_more all asked s rooms old new h room was size limited =
     fill_by_all after new n false (size ∙ (ap length was ∙ length-map-range_with_len before 0 n)) (λ r low.
     let more = list_all_more (λ slot. is_served all r slot) (slots_of asked) s no_slot h in
     served_at all slot before rooms old new room was limited r low ∙ rw more (grind arith))
+
+-- where no mark is set, none is set of any further slot
+pub none_comes : (all : List Provider) (asked : Asked) (s : ℕ) → list_any (λ mark. mark) (served_roots all asked (take s (slots_of asked))) ≡ false
+    → served_roots all asked (take s (slots_of asked)) ≡ served_roots all asked (slots_of asked)
+none_comes all asked s h =
+    let ss = slots_of asked in
+    let test = λ (r : ℕ) (slots : List Slot). takes_root all asked r && list_all (λ slot. is_served all r slot) slots in
+    no_more (λ r. test r (take s ss)) (λ r. test r ss) (range_with_len 0 (length all))
+    (λ r. both_less (takes_root all asked r) _ _ _ (ap (list_all (λ slot. is_served all r slot)) (sym (take-append-drop s ss)) ∙ list_all-append (λ slot. is_served all r slot) (take s ss) (drop s ss))) h
 
 -- where no slot is asked, the roots that the query takes
 pub served_none : (all : List Provider) (asked : Asked) (rs : List ℕ) → map (takes_root all asked) rs ≡ map (λ r. takes_root all asked r && true) rs

@@ -13,3 +13,5 @@ pub mod NobodyLaws
 pub mod UnheldLemmas
 pub mod ApartLemmas
 pub mod AuditFacts
+pub mod ToldLemmas
+pub mod Service

@@ -36,7 +36,7 @@ serves_alone all asked slot p h =
     both.1 in
     and_from (meets_tree all (in_slot slot p)) _ both.0 room
 
-any_among : {X : Type 0} (f : X → Bool) (xs : List X) (x : X) → Among xs x → f x ≡ true → list_any f xs ≡ true
+pub any_among : {X : Type 0} (f : X → Bool) (xs : List X) (x : X) → Among xs x → f x ≡ true → list_any f xs ≡ true
 any_among f [] x h on = absurd h
 any_among f (y ∷ xs) x h on = elim h [
   | inl e ↦ or_left (f y) (list_any f xs) (ap f e ∙ on)

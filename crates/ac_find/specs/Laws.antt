@@ -1,15 +1,21 @@
 -- What the laws say of the counts of an explanation, and of the roots that fit.
-use Rattle.std.specs.Prelude.{◌≡◌, ◌<◌, ◌≤◌, ◌&&◌, ◌||◌, ℕ, Bool, true, false, not, List, [], length, Some}
+use Rattle.std.specs.Prelude.{◌≡◌, ◌≢◌, ◌<◌, ◌≤◌, ◌&&◌, ◌||◌, ℕ, Bool, true, false, not, List, [], length, Some}
 use Rattle.std.specs.List.{AllByRecursion, list_all, list_any, range_with_len}
 use Rattle.std.specs.Option.{is_none, option_map_or}
 use Rattle.ac_base.specs.Quantities.{InventoryNumbers}
 use Rattle.ac_query.specs.Asked.{Asked, Group, Slot, slots_of}
-use Rattle.ac_cloud.specs.World.{Provider}
+use Rattle.ac_cloud.specs.World.{Provider, provider_at}
+use Rattle.ac_rules.specs.Judge.{judge}
 use Rattle.ac_rules.specs.Own.{admits}
 use Rattle.ac_rules.specs.Pages.{candidates}
-use Rattle.ac_rules.specs.Placed.{slot_at}
+use Rattle.ac_rules.specs.Placed.{assigned, slot_at}
 use Rattle.ac_rules.specs.Together.{has_room, is_empty}
+use Rattle.ac_rules.specs.declared.verdict.Rule.{Rule}
+use Rattle.ac_rules.specs.declared.verdict.Rule.TheVariants.{Anchor, Sums}
+use Rattle.ac_rules.specs.declared.verdict.Verdict.TheVariants.{Broken}
 use Rattle.ac_find.specs.Audit.{admits_some}
+use Rattle.ac_find.specs.Broken.{broken_detail, first_host, first_misfit, in_list, misfit_detail}
+use Rattle.ac_find.specs.Details.{root_detail}
 use Rattle.ac_find.specs.Explained.{SlotCounts, TreeCounts, class_rooms, slot_counts, tree_counts}
 use Rattle.ac_prune.specs.Fitting.{fits_at}
 use Rattle.ac_find.specs.Lacking.{lack_at}
@@ -91,3 +97,17 @@ LackNothing = (all : List Provider) (asked : Asked) (r : ℕ) → is_none (lack_
 -- an inventory that admits an amount and has room for it isn't told as one that never fits
 abbrev pub PlacedFits : Type 0
 PlacedFits = (i : InventoryNumbers) (used amount : ℕ) → 1 ≤ amount → admits (Some i) amount ≡ true → has_room (Some i) used amount ≡ true → admits_some i ≡ true
+
+-- of the first rule that is broken something is told
+abbrev pub BrokenIsTold : Type 0
+BrokenIsTold = (all : List Provider) (asked : Asked) (list : List ℕ) (rule : Rule) → judge all asked list ≡ Broken rule → broken_detail all asked list rule ≢ []
+
+-- behind a slot and its provider, of what this one breaks a rule of its slot; Sums, of all slots together, is told by its class alone
+abbrev pub MisfitIsTold : Type 0
+MisfitIsTold = (all : List Provider) (asked : Asked) (list : List ℕ) (rule : Rule) (s : ℕ) → rule ≢ Sums → first_misfit all asked list rule ≡ Some s
+    → misfit_detail all (in_list asked list s) rule ≢ []
+
+-- behind a root at which all providers are available, what this one lacks that the query asks of a root
+abbrev pub RootIsTold : Type 0
+RootIsTold = (all : List Provider) (asked : Asked) (list : List ℕ) (root : ℕ) → judge all asked list ≡ Broken Anchor → first_host all (assigned asked list) ≡ Some root
+    → root_detail (provider_at all root) asked ≢ []

@@ -9,3 +9,4 @@ pub mod Lacking
 pub mod Laws
 pub mod Unheld
 pub mod Furthest
+pub mod Service

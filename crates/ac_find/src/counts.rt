@@ -2,6 +2,7 @@
 //! for each slot, and the traits that the group without a suffix requires.
 
 ghost use Rattle.std.specs.Prelude.{◌≡◌, ◌<◌, ◌≤◌, ◌^◌, IfOk, [], length, nat_lt};
+ghost use Rattle.std.specs.List.{list_any};
 ghost use Rattle.ac_cloud.specs.World.{id_at, is_root};
 ghost use Rattle.ac_cloud.specs.Cloud.CloudWorld.{providers_of};
 ghost use Rattle.ac_query.specs.Asked.{slots_of};
@@ -61,7 +62,7 @@ pub struct TreeCounts {
 
 // Whether a provider has room for what a slot alone asks.
 #[tactic(auto, unfolding(ac_prune::specs::QuerySearch::has_room_alone))]
-fn has_room_alone(placed: &Placed) -> bool
+pub(crate) fn has_room_alone(placed: &Placed) -> bool
     ensures { result ≡ has_room_alone (providers_of placed.now.cloud.now) (placed_of placed.now) }
 {
     for need in placed.needs() {
@@ -145,7 +146,7 @@ fn meets_rules(placed: &Placed) -> bool
 }
 
 // Whether a provider meets all that its slot asks, room included.
-fn serves(placed: &Placed) -> bool
+pub(crate) fn serves(placed: &Placed) -> bool
     ensures { result ≡ meets_room (providers_of placed.now.cloud.now) (placed_of placed.now) }
 {
     meets_rules(placed) && has_room_alone(placed)
@@ -161,7 +162,14 @@ fn serving(alloc: Global, cloud: &Cloud, query: &Query, s: usize) -> Result<Vec<
     Ok(serving.collect(alloc)?)
 }
 
-// Drops the roots at which some slot has no provider.
+// Whether some mark is set.
+fn is_some_marked(marks: &[bool]) -> bool
+    ensures { result ≡ list_any (λ mark. mark) marks.now }
+{
+    marks.iter().any(|mark| *mark)
+}
+
+// Drops the roots at which some slot has no provider. Where no root is left, no further slot is looked at.
 fn limit_slots(
     alloc: Global,
     cloud: &Cloud,
@@ -174,6 +182,9 @@ fn limit_slots(
         (slots_of (asked_of query.now))) }
 {
     for s in 0..count_slots(query) {
+        if !is_some_marked(marks) {
+            return Ok(());
+        }
         let serving = serving(alloc, cloud, query, s)?;
         limit(alloc, cloud, marks, &serving, 1)?;
     }

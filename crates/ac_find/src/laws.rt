@@ -1,6 +1,7 @@
-//! What holds of the counts of an explanation, and of the roots that fit: a function's contract is a law, and no program calls it.
+//! What holds of the counts of an explanation, of the roots that fit, of what is told of a broken rule, and of the service's own rules: a function's contract is a law, and no program calls it.
 
-ghost use Rattle.ac_find.specs.Laws.{CountsFall, LackNothing, NoRootHas, NobodyHas, NobodyIsThere, NoneWithoutRoots, NoneWithoutTraits, PlacedFits, RootTraitsZero, RootsFall, SlotZero, SomeFits};
+ghost use Rattle.ac_find.specs.Laws.{BrokenIsTold, CountsFall, LackNothing, MisfitIsTold, NoRootHas, NobodyHas, NobodyIsThere, NoneWithoutRoots, NoneWithoutTraits, PlacedFits, RootIsTold, RootTraitsZero, RootsFall, SlotZero, SomeFits};
+ghost use Rattle.ac_find.specs.Service.Rules.{FloatsAgree, IsolateAgrees};
 
 /// In a slot's line no number is greater than the one before it.
 pub fn counts_fall()
@@ -66,4 +67,29 @@ pub fn lack_nothing()
 #[tactic(auto, using(crate::proofs::AuditFacts::placed_fits))]
 pub fn placed_fits()
     ensures { PlacedFits }
+{}
+
+/// Of the first rule that an assignment breaks something is told.
+pub fn broken_is_told()
+    ensures { BrokenIsTold }
+{}
+
+/// Behind a slot and its provider stands of what this one breaks a rule of its slot.
+pub fn misfit_is_told()
+    ensures { MisfitIsTold }
+{}
+
+/// Behind a root at which all providers are available stands what this one lacks.
+pub fn root_is_told()
+    ensures { RootIsTold }
+{}
+
+/// Where `isolate` and groups without resources don't meet, the service's `isolate` gives the same candidates.
+pub fn isolate_agrees()
+    ensures { IsolateAgrees }
+{}
+
+/// Where no capacity that matters is another one in floating point, the service's capacities give the same candidates.
+pub fn floats_agree()
+    ensures { FloatsAgree }
 {}

@@ -1,5 +1,5 @@
 //! What is found of a cloud: how many providers and roots come how far, what a root lacks, what nobody has, of what a provider has too
-//! little, and of what a list of providers breaks a rule.
+//! little, of what a list of providers breaks a rule, and where the running service may answer otherwise than the rules.
 //!
 //! It searches nothing, and knows nothing of what is printed.
 #![tactic(auto)]
@@ -8,6 +8,7 @@ mod audit;
 pub mod broken;
 mod counts;
 pub mod details;
+pub mod differences;
 mod furthest;
 mod inventories;
 mod lacks;
@@ -21,6 +22,7 @@ pub use counts::{
     SlotCounts, SlotTold, TreeCounts, all_slots, first_apart, requires_some, slot_counts,
     tree_counts,
 };
+pub use differences::{Difference, all_differences, applies};
 pub use furthest::{Wanting, find_wanting};
 pub use inventories::{has_inventory, somebody_there_has_class};
 pub use lacks::{Lack, Stage, find_lack, find_lacks, first_failed};

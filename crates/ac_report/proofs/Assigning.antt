@@ -17,7 +17,7 @@ use Rattle.ac_report.specs.Trees.{hosts}
 use Rattle.ac_report.proofs.Differing.{classes_agree, classes_hosts, suffixed_agree}
 use Rattle.ac_report.proofs.Trees.Finding.{AreTold, hosts_agree}
 use Rattle.ac_report.proofs.Trees.FindingSums.{sums_agree}
-use Rattle.ac_differences.proofs.MarkLemmas.{same_places}
+use Rattle.ac_find.proofs.Service.MarkLemmas.{same_places}
 
 -- hosts and sums tell assignments
 agree : (gs : List (Option (List ℕ) × Group)) (n : ℕ) (t u : List ℕ) → IsFirstPlain gs → AllByRecursion (λ g. AreNeeds g.1.needs) gs → length t ≡ length (slots_from 0 gs) → length u ≡ length (slots_from 0 gs)

@@ -1,10 +1,10 @@
-//! What holds of pages: each function's contract is a law, and no program calls it.
+//! What holds of pages, and of what is told of a provider: each function's contract is a law, and no program calls it.
 
 ghost use Rattle.std.specs.Prelude.{ℕ, List};
 ghost use Rattle.ac_cloud.specs.Laws.{AreProviders};
 ghost use Rattle.ac_cloud.specs.World.{Provider};
 ghost use Rattle.ac_query.specs.Asked.{Asked};
-ghost use Rattle.ac_report.specs.Laws.{IsInPieces, RequestsDiffer};
+ghost use Rattle.ac_report.specs.Laws.{IsInPieces, RequestsDiffer, StageIsTold};
 
 /// The body of any lists is its pieces, joined.
 pub fn body_pieces()
@@ -17,4 +17,9 @@ pub fn body_pieces()
 #[tactic(auto, using(crate::proofs::Assigning::requests_differ))]
 pub fn requests_differ()
     ensures { RequestsDiffer }
+{}
+
+/// Of the first test of its slot that a provider fails stands of what it does.
+pub fn stage_is_told()
+    ensures { StageIsTold }
 {}

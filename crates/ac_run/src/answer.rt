@@ -424,7 +424,12 @@ pub fn write_answer<W: Sink>(
             write_verdict(alloc, cloud, query, token, *detail, out)
         }
         Wanted::Explanation(question) => write_explanation(alloc, cloud, question, tries, out),
-        Wanted::Hosts(query, sum, only_fitting, within) => write_hosts(
+        Wanted::Hosts {
+            query,
+            sum,
+            only_fitting,
+            within,
+        } => write_hosts(
             alloc,
             cloud,
             query,

@@ -17,7 +17,7 @@ pub(crate) fn note_to(alloc: Global, cloud: &Cloud, wanted: &Wanted) -> Result<V
 {
     match wanted {
         Wanted::Lines(page) => differences_text(alloc, cloud, &page.query, true),
-        Wanted::Fill(query, _) | Wanted::Hosts(query, _, _, _) | Wanted::Comparison(query, _) => {
+        Wanted::Fill(query, _) | Wanted::Hosts { query, .. } | Wanted::Comparison(query, _) => {
             differences_text(alloc, cloud, query, true)
         }
         _ => Ok(Vec::new(alloc)),

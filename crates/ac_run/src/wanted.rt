@@ -64,8 +64,15 @@ pub enum Wanted {
     Verdict(Query, Token, bool),
     /// How far a query comes.
     Explanation(Question),
-    /// Which roots fit, and what the others lack, or how many of them lack what; of those alone that fit, or of all; and of all roots, or of those of an aggregate.
-    Hosts(Query, bool, bool, Option<u128>),
+    /// Which roots fit, and what the others lack, or how many of them lack what.
+    Hosts {
+        query: Query,
+        sum: bool,
+        /// Of those that fit alone.
+        only_fitting: bool,
+        /// Of those of an aggregate.
+        within: Option<u128>,
+    },
     /// How far a query comes in the tree of a provider, which stands at this place.
     Why(Query, u32),
     /// How many of each flavor the cloud can hold: as rows, or as metrics.
@@ -254,7 +261,12 @@ fn wanted_of(alloc: Global, job: &Job, cloud: &Cloud, query: Query) -> Result<Wa
             sum,
             only_fitting,
             within,
-        } => Ok(Wanted::Hosts(query, sum, only_fitting, within)),
+        } => Ok(Wanted::Hosts {
+            query,
+            sum,
+            only_fitting,
+            within,
+        }),
         Command::Why { host } => Ok(Wanted::Why(query, find_host(cloud, host)?)),
         Command::Capacity { metrics, .. } => Ok(Wanted::Capacity(Vec::new(alloc), metrics)),
         Command::Compare { answer } => {

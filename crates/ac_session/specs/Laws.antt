@@ -136,14 +136,14 @@ SessionsNeverOverbook = (terms : Terms) (tables : Tables) (lines : List Given) �
     → NoneOverbooked (world_stated tables).providers (providers_behind terms (unnamed (world_stated tables)) lines)
 
 -- the line of a list of providers, as `tokens` writes it
-abbrev pub token_of : List Provider → List ℕ → Text
-token_of all list = ids_text (ids_of all list)
+abbrev pub list_token : List Provider → List ℕ → Text
+list_token all list = ids_text (ids_of all list)
 
 -- The line of a candidate claims it: it is answered so, and behind it the candidate has taken what is asked.
 abbrev pub LinesAreClaimed : Type 0
 LinesAreClaimed = (version : Version) (query : Text) (world : World) (list : List ℕ) → AreProviders world.providers → query_fault version query ≡ None
     → IsAssignment world.providers (asked_by version (pairs_of query)) list → is_candidate world.providers (asked_by version (pairs_of query)) list ≡ true
-    → claim_turn version query (token_of world.providers list) world
+    → claim_turn version query (list_token world.providers list) world
     ≡ record { answer = Some (written (codes "claimed\n") 0); state = record world { providers = claimed world.providers (assigned (asked_by version (pairs_of query)) list) } }
 
 -- the world behind claims by these tokens, one after another
@@ -155,4 +155,4 @@ claimed_behind version query world (token ∷ others) = claimed_behind version q
 abbrev pub FillsAreClaims : Type 0
 FillsAreClaims = (terms : Terms) (query : Text) (world : World) → AreProviders world.providers → query_fault terms.version query ≡ None
     → (let asked = asked_by terms.version (pairs_of query) in
-    (fill_turn terms query world).state ≡ claimed_behind terms.version query world (map (token_of world.providers) (filled asked.limit world.providers asked)))
+    (fill_turn terms query world).state ≡ claimed_behind terms.version query world (map (list_token world.providers) (filled asked.limit world.providers asked)))

@@ -328,7 +328,7 @@ fn begin<'a, R: Feed>(
 /// Each search that a question makes may make so many tries; without a number, as many as it takes. Where it stops, a first part of the output is written,
 /// and that ends with 8: nothing changes then, and the session goes on.
 ///
-/// 0: the questions are at their end; 3: a table or its reading refused, or the questions can't be read; 6: the output failed; 7: want of memory.
+/// 0: the questions are at their end; 3: a table, its reading or the names refused, or the questions can't be read; 6: the output failed; 7: want of memory.
 /// With 3 to 7 a line on the error sink says so. Its memory doesn't grow with the number of questions, but with that of the names that stand for a claim.
 pub fn run_session<R: Feed, Q: Feed, W: Sink + Drop, E: Sink>(
     alloc: Global,

@@ -28,7 +28,7 @@ use Rattle.ac_rules.specs.Pages.{ids_of}
 use Rattle.ac_rules.specs.Placed.{assigned}
 use Rattle.ac_session.proofs.FirstPlaced.{head_candidate}
 use Rattle.ac_session.proofs.Turned.{claim_read, filled_world, past_read}
-use Rattle.ac_session.specs.Laws.{FillsAreClaims, LinesAreClaimed, claimed_behind, token_of}
+use Rattle.ac_session.specs.Laws.{FillsAreClaims, LinesAreClaimed, claimed_behind, list_token}
 use Rattle.ac_session.specs.Turns.{after_fill, claim_said, claim_turn, fill_turn, places_named, settles}
 
 -- ---- the ids of providers have their places
@@ -84,10 +84,10 @@ lines_are_claimed version query world list fine accepted list_is candidate =
     let asked = asked_by version (pairs_of query) in
     let long : length (ids_of all list) ≡ length (slots_of asked) = length-map list (id_at all) ∙ list_is.long in
     let some = some_slots asked (accepted_ask version query accepted) in
-    let read : ids_value (token_of all list) ≡ Some (ids_of all list) = reads (ids_of all list) (omega (arith, long, some)) (ids_small all fine list list_is.below) in
-    let named : places_named all (token_of all list) ≡ Some list = ap (option_and_then (places_of all)) read ∙ places_here all fine list list_is.below in
-    let whole : token_fault asked (token_of all list) ≡ None = as_long (length (slots_of asked)) (length (slots_of asked)) (ids_of all list) (ids_value (token_of all list)) read long refl in
-    claim_read version query (token_of all list) world asked (Some list) refl (sym named) (λ say. past_read say version query (token_of all list) asked accepted refl whole)
+    let read : ids_value (list_token all list) ≡ Some (ids_of all list) = reads (ids_of all list) (omega (arith, long, some)) (ids_small all fine list list_is.below) in
+    let named : places_named all (list_token all list) ≡ Some list = ap (option_and_then (places_of all)) read ∙ places_here all fine list list_is.below in
+    let whole : token_fault asked (list_token all list) ≡ None = as_long (length (slots_of asked)) (length (slots_of asked)) (ids_of all list) (ids_value (list_token all list)) read long refl in
+    claim_read version query (list_token all list) world asked (Some list) refl (sym named) (λ say. past_read say version query (list_token all list) asked accepted refl whole)
     ∙ ap (λ v. settles 0 world (claim_said v) (claimed all (assigned asked list))) (candidate_judged all asked list candidate)
 
 -- ---- claims one after another
@@ -107,7 +107,7 @@ module _ (version : Version) (query : List ℕ) (accepted : query_fault version 
   asked = asked_by version (pairs_of query)
 
   each_claimed : (lists : List (List ℕ)) (world : World) → AreProviders world.providers → ((ix : ℕ) → id_at world.providers ix ≡ id_at first ix)
-      → AreFirstFits world.providers asked lists → record world { providers = after world.providers asked lists } ≡ claimed_behind version query world (map (token_of first) lists)
+      → AreFirstFits world.providers asked lists → record world { providers = after world.providers asked lists } ≡ claimed_behind version query world (map (list_token first) lists)
   each_claimed [] world fine same fit = refl
   each_claimed (list ∷ lists) world fine same fit =
       let now : World = record world { providers = claimed world.providers (assigned asked list) } in
@@ -115,8 +115,8 @@ module _ (version : Version) (query : List ℕ) (accepted : query_fault version 
       let found = head_candidate world.providers asked list fit.0 in
       let made = lines_are_claimed version query world list fine accepted found.1 found.0 in
       each_claimed lists now (kept_in_order world.providers now.providers alone fine) (λ ix. alone.ids ix ∙ same ix) fit.1
-      ∙ ap (λ (w : World). claimed_behind version query w (map (token_of first) lists)) (sym (ap (λ turn. turn.state) made))
-      ∙ ap (λ ids. claimed_behind version query (claim_turn version query (ids_text ids) world).state (map (token_of first) lists)) (sym (ids_kept first world.providers same list))
+      ∙ ap (λ (w : World). claimed_behind version query w (map (list_token first) lists)) (sym (ap (λ turn. turn.state) made))
+      ∙ ap (λ ids. claimed_behind version query (claim_turn version query (ids_text ids) world).state (map (list_token first) lists)) (sym (ids_kept first world.providers same list))
 
 pub fills_are_claims : FillsAreClaims
 unfolding fill_turn

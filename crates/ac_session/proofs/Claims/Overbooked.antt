@@ -244,13 +244,13 @@ sorted_using first now using sorted =
 -- ---- turns of a session
 
 -- nothing is overbooked, nor was it in a world that is marked
-pub record NeverOverbooks (first : World) (held : Held) : Type 0 where
+pub record OverbooksNothing (first : World) (held : Held) : Type 0 where
   pub using : IsUsing first held.world
   pub sorted : HaveClassesInOrder held.world.providers
   pub bound : NoneOverbooked first.providers held.world.providers
   pub marks : AreMarked first.providers held.world held.marks
 
-module _ (first : World) (terms : Terms) (held : Held) (known : NeverOverbooks first held) where
+module _ (first : World) (terms : Terms) (held : Held) (known : OverbooksNothing first held) where
   abbrev IsFine : Held → Type 0
   IsFine next = NoneOverbooked first.providers next.world.providers
 
@@ -327,7 +327,7 @@ module _ (first : World) (terms : Terms) (held : Held) (known : NeverOverbooks f
     by_ids_marked wrong_number = still wrong_number tt
 
   told_fine : (result : Result Asked NamesRefusal) → ((old : World) → IsUsing old held.world → IsUsing old (turn_told terms held result).state.world)
-      → NeverOverbooks first (turn_told terms held result).state
+      → OverbooksNothing first (turn_told terms held result).state
   told_fine (Ok asked) on =
       let next = (turn_by_ids terms held asked).state.world in
       let using = on first known.using in
@@ -339,7 +339,7 @@ module _ (first : World) (terms : Terms) (held : Held) (known : NeverOverbooks f
       }
   told_fine (Err why) on = known
 
-  turn_fine : (given : Given) → NeverOverbooks first (turn_of terms held given).state
+  turn_fine : (given : Given) → OverbooksNothing first (turn_of terms held given).state
   unfolding turn_of
   turn_fine (line text) = told_fine (asked_told terms held.world (asked_of terms.version text)) (λ old using. turn_using old terms held (line text) using)
   turn_fine too_long = known
@@ -350,7 +350,7 @@ unfolding world_stated
 sessions_never_overbook terms tables lines accepted =
     let first = world_stated tables in
     let ids = ids_of tables.providers in
-    (lines_keep (NeverOverbooks first) terms (λ held given known. turn_fine first terms held known given) (unnamed first) lines (record {
+    (lines_keep (OverbooksNothing first) terms (λ held given known. turn_fine first terms held known given) (unnamed first) lines (record {
       using = using_same first;
       sorted = classes_in_order tables (each_accepted tables accepted) ids first.providers (gathered_stated tables ids);
       bound = λ ix class had found over. rw found (omega arith);

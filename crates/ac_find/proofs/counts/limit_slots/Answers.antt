@@ -1,8 +1,9 @@
-use Rattle.std.proofs.Common.{◌∙◌, length, ap, arith}
+use Rattle.std.proofs.Common.{◌∙◌, Bool, length, ap, sym, arith}
+use Rattle.std.specs.List.{list_any}
 use Rattle.std.proofs.lemmas.List.FromFn.{length-map-range_with_len}
 use Rattle.ac_query.specs.Shown.Queries.{asked_of}
 use Rattle.ac_cloud.specs.Cloud.CloudWorld.{providers_of}
-use Rattle.ac_find.proofs.ExplainedLemmas.{served_more}
+use Rattle.ac_find.proofs.ExplainedLemmas.{none_comes, served_more}
 use Rattle.ac_find.proofs.counts.limit_slots.Goals as goal
 
 pub limit-requires-clause-rooms : goal.limit-requires-clause-rooms
@@ -16,3 +17,8 @@ loop-s-preserved c =
     served_more (providers_of c.args.cloud.now) (asked_of c.args.query.now) c.loop-s.s c.deref.result.now c.loop-s.marks c.limit.new.may
     (omega (arith, c.loop-s-test.true, c.count_slots-s-end.ensures.count))
     (c.deref.ensures.value ∙ c.in_ok-serving.ensures) c.loop-s.invariant c.limit.auto.may c.in_ok-limit.ensures
+
+pub returns-then-not-is_some_marked : goal.returns-then-not-is_some_marked
+returns-then-not-is_some_marked c =
+    c.loop-s.invariant ∙ none_comes (providers_of c.args.cloud.now) (asked_of c.args.query.now) c.loop-s.s
+    (ap (list_any (λ (mark : Bool). mark)) (sym c.loop-s.invariant) ∙ (sym c.is_some_marked.ensures ∙ c.if-not-is_some_marked.true))

@@ -1,6 +1,6 @@
 use Rattle.ac_cloud.specs.Cloud.CloudWorld.{providers_of}
 use Rattle.ac_cloud.proofs.InOrder.{cloud_in_order}
-use Rattle.ac_differences.proofs.MarkLemmas.{mark_step}
+use Rattle.ac_find.proofs.Service.MarkLemmas.{mark_step}
 use Rattle.ac_report.proofs.page.mark_root.Goals as goal
 
 pub returns-clause-marked : goal.returns-clause-marked

@@ -3,9 +3,9 @@ use Rattle.std.specs.Prelude.{ℕ, ◌&&◌, ◌||◌, Bool, true, false, List, 
 use Rattle.std.specs.List.{filter, flat_map}
 use Rattle.ac_query.specs.Asked.{Asked}
 use Rattle.ac_cloud.specs.World.{Provider}
-use Rattle.ac_differences.specs.Differing.{all_differences, applies}
-use Rattle.ac_differences.specs.declared.differences.Difference.{Difference}
-use Rattle.ac_differences.specs.declared.differences.Difference.TheVariants as difference
+use Rattle.ac_find.specs.Service.Differing.{all_differences, applies}
+use Rattle.ac_find.specs.declared.differences.Difference.{Difference}
+use Rattle.ac_find.specs.declared.differences.Difference.TheVariants as difference
 use Rattle.ac_base.specs.Writing.Pieces.{said}
 
 -- the heading of docs/DIFFERENCES.md that a difference stands under, its first letter small, and without marks of code

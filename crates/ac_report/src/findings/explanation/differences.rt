@@ -6,7 +6,7 @@ ghost use Rattle.ac_report.specs.Findings.Explanation.Differing.{adds, advice, d
 
 use ac_base::NoMemory;
 use ac_cloud::Cloud;
-use ac_differences::{Difference, all_differences, applies};
+use ac_find::{Difference, all_differences, applies};
 use ac_query::Query;
 use std::alloc::{AllocError, Global};
 

@@ -1,3 +1,0 @@
-pub mod DoublesLemmas
-pub mod MarkLemmas
-pub mod SharesLemmas

@@ -1,8 +1,0 @@
-use Rattle.std.proofs.Common.{◌∙◌, ap, rules}
-use Rattle.std.specs.List.{list_any}
-use Rattle.ac_base.specs.Names.{trait_bytes}
-use Rattle.ac_rules.proofs.ChainLemmas.{any_items}
-use Rattle.ac_differences.proofs.differences.asks.forbids_a_required.Goals as goal
-
-pub returns : goal.returns
-returns c = any_items trait_bytes _ _ _ _ _ c.any.ensures.ran c.iter.ensures.rest (λ x b q k. search rules) ∙ ap (list_any _) c.required.ensures.names

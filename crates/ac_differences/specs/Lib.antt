@@ -1,3 +1,0 @@
-pub mod Differing
-pub mod Doubles
-pub mod Marks

@@ -1,0 +1,23 @@
+-- Where no sharing provider has what a slot asks for, none of its rules on aggregates makes a difference.
+use Rattle.std.proofs.Common.{◌≡◌, ℕ, Bool, ◌&&◌, List, [], ◌∷◌, length, arith}
+use Rattle.std.specs.List.{list_any, range_with_len}
+use Rattle.ac_query.specs.Asked.{Asked}
+use Rattle.ac_query.specs.Pairs.Values.{AggregateRule}
+use Rattle.ac_cloud.specs.World.{Provider, provider_at}
+use Rattle.ac_rules.specs.Placed.{placed_at}
+use Rattle.ac_find.specs.Service.Differing.{forbids_a_root, has_to_lend, is_met_by, some_provider}
+
+pub any_both : (f g : ℕ → Bool) (xs : List ℕ) → list_any (λ p. f p && g p) xs ≡ (list_any f xs && list_any (λ p. f p && g p) xs)
+any_both f g [] = grind arith
+any_both f g (x ∷ xs) = let more = any_both f g xs in grind (arith, more)
+
+module _ (all : List Provider) (asked : Asked) (s : ℕ) where
+  forbids_beside : (rule : AggregateRule) → forbids_a_root all asked s rule ≡ (some_provider all asked s (has_to_lend all) && forbids_a_root all asked s rule)
+  forbids_beside rule =
+      let both = any_both (λ p. has_to_lend all (placed_at asked s p)) (λ p. is_met_by (provider_at all p) rule) (range_with_len 0 (length all)) in
+      grind (arith, both)
+
+  pub lent_beside : (rules : List AggregateRule) → list_any (forbids_a_root all asked s) rules
+      ≡ (some_provider all asked s (has_to_lend all) && list_any (forbids_a_root all asked s) rules)
+  lent_beside [] = grind arith
+  lent_beside (rule ∷ rules) = let here = forbids_beside rule in let more = lent_beside rules in grind (arith, here, more)
