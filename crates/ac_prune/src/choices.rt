@@ -94,7 +94,7 @@ fn fits(placed: &Placed, met: Option<&[bool]>) -> bool
     ensures { result ≡ fits (providers_of placed.now.cloud.now) (placed_of placed.now) }
 {
     match met {
-        Some(marks) => placed.has_units() && marks[placed.provider as usize],
+        Some(marks) => marks[placed.provider as usize] && placed.has_units(),
         None => placed.fits(),
     }
 }
