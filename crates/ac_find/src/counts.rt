@@ -19,8 +19,8 @@ mod classes;
 pub(crate) mod met;
 pub(crate) mod required;
 
-use crate::inventories::has_inventories;
 use self::met::Met;
+use crate::inventories::has_inventories;
 use ac_base::NoMemory;
 use ac_cloud::Cloud;
 use ac_prune::{limit, taken_roots};

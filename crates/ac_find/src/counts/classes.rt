@@ -95,12 +95,7 @@ fn is_short(query: &Query, s: usize, counts: &SlotCounts) -> bool
 }
 
 // How many providers have room for each class of a slot; nothing where it has one class, or where each provider has room for all.
-fn rooms_of(
-    alloc: Global,
-    found: &Met,
-    s: usize,
-    counts: &SlotCounts,
-) -> Result<Vec<u32>, NoMemory>
+fn rooms_of(alloc: Global, found: &Met, s: usize, counts: &SlotCounts) -> Result<Vec<u32>, NoMemory>
     requires slot { s < length (slots_of (asked_of found.now.query.now)) }
     requires counts { slot_counted counts.now ≡ slot_counts (providers_of found.now.cloud.now)
         (slot_at (asked_of found.now.query.now) s) }
@@ -161,12 +156,7 @@ fn find_most(alloc: Global, found: &Met, s: usize) -> Result<Vec<u64>, NoMemory>
 }
 
 // The most that is left of each class of a slot, where some provider meets its rules and none has room; else nothing.
-fn lefts_of(
-    alloc: Global,
-    found: &Met,
-    s: usize,
-    counts: &SlotCounts,
-) -> Result<Vec<u64>, NoMemory>
+fn lefts_of(alloc: Global, found: &Met, s: usize, counts: &SlotCounts) -> Result<Vec<u64>, NoMemory>
     requires slot { s < length (slots_of (asked_of found.now.query.now)) }
     requires counts { slot_counted counts.now ≡ slot_counts (providers_of found.now.cloud.now)
         (slot_at (asked_of found.now.query.now) s) }

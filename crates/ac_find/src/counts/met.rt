@@ -27,12 +27,7 @@ pub(crate) struct Met<'a> {
 }
 
 // How many tests of each slot a provider passes, behind what stands there already.
-fn count_row(
-    cloud: &Cloud,
-    query: &Query,
-    ix: u32,
-    passed: &mut Vec<u32>,
-) -> Result<(), NoMemory>
+fn count_row(cloud: &Cloud, query: &Query, ix: u32, passed: &mut Vec<u32>) -> Result<(), NoMemory>
     requires { ix < length (providers_of cloud.now) }
     ensures { OnOk result (passed.new.items ≡ passed.old.items
         ++ met_row (providers_of cloud.now) (asked_of query.now) ix) }
@@ -57,7 +52,11 @@ fn count_rows(alloc: Global, cloud: &Cloud, query: &Query) -> Result<Vec<u32>, N
 
 impl<'a> Met<'a> {
     /// Looks at each provider for each slot.
-    pub(crate) fn find(alloc: Global, cloud: &'a Cloud, query: &'a Query) -> Result<Met<'a>, NoMemory>
+    pub(crate) fn find(
+        alloc: Global,
+        cloud: &'a Cloud,
+        query: &'a Query,
+    ) -> Result<Met<'a>, NoMemory>
         ensures cloud { IfOk result (λ met. met.cloud.now ≡ cloud.now) }
         ensures query { IfOk result (λ met. met.query.now ≡ query.now) }
     {

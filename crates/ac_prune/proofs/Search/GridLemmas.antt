@@ -42,8 +42,13 @@ module _ {X : Type 0} (f : ℕ → List X) where
 
     pub grid_within : (n ix s : ℕ) → ix < n → s < k → ix * k + s < length (flat_map f (range_with_len 0 n))
     grid_within n ix s inside low =
-        omega (arith, low, rows_before n ix inside, size (get_or (range_with_len 0 n) ix 0),
-        length-flat_map-take f (range_with_len 0 n) ix 0 (omega (arith, inside, length-range_with_len 0 n)))
+        omega (
+          arith,
+          low,
+          rows_before n ix inside,
+          size (get_or (range_with_len 0 n) ix 0),
+          length-flat_map-take f (range_with_len 0 n) ix 0 (omega (arith, inside, length-range_with_len 0 n)),
+        )
 
 -- ---- Choices
 
