@@ -15,6 +15,7 @@ use Rattle.std.specs.Option.{option_map, unwrap_or}
 use Rattle.ac_run.specs.Feeds.{Bytes, FeedRose, RisesIn, TellBytes, is_long, is_long_there}
 use Rattle.ac_run.specs.Notes.{noted}
 use Rattle.ac_run.specs.Run.{FailsOr, IsAnswered, IsRefused}
+use Rattle.ac_run.specs.Stops.{TaskMayStop}
 use Rattle.ac_run.specs.Tasks.{Paths, Task}
 use Rattle.ac_tables.specs.declared.fault.Table.{Table}
 use Rattle.ac_tables.specs.declared.fault.Table.TheVariants as table
@@ -214,7 +215,7 @@ module _ (files : Files) where
 
   -- so it can be had, where memory suffices
   can_be_had : (at : Text) → IsHeld at → (why : FileUnread) → ExplainsUnread (Opens files) (Refuses files) told never at why
-      → (of : Beside) (detail : Option Paths) (Told : List ℕ → Type 0) (given : ℕ) → IsToldUnread of detail at why Told given → given ≤ 6 → ⊥
+      → (of : Beside) (detail : Option Paths) (Told : List ℕ → Type 0) (given : ℕ) → IsToldUnread of detail at why Told given → (given ≡ 7 → ⊥) → ⊥
   can_be_had at held (unread.Unopened reason) because of detail Told given is few = let there = held.1 in let none = because.0 in absurd cc
   can_be_had at held unread.Failed because of detail Told given is few = still 0 0 refl refl because.3
   can_be_had at held unread.TooLarge because of detail Told given is few =
@@ -222,22 +223,22 @@ module _ (files : Files) where
       let many = because.2 in
       let short : is_long (file_bytes because.0) ≡ false = ap is_long (sym same) ∙ held.2 in
       absurd (grind (arith, nat_tests, many, short))
-  can_be_had at held unread.NoMemory because of detail Told given is few = absurd (omega (arith, few, is.1))
+  can_be_had at held unread.NoMemory because of detail Told given is few = absurd (few is.1)
 
   -- a table of names is there, or it isn't, which is no fault
   names_had : (bytes names : Option (List ℕ)) (at : Text) → bytes_at files at ≡ bytes → Some (unwrap_or bytes names_header) ≡ names → is_long_there names ≡ false
       → (why : FileUnread) → IsThere why → ExplainsUnread (Opens files) (Refuses files) told never at why
-      → (of : Beside) (detail : Option Paths) (Told : List ℕ → Type 0) (given : ℕ) → IsToldUnread of detail at why Told given → given ≤ 6 → ⊥
+      → (of : Beside) (detail : Option Paths) (Told : List ℕ → Type 0) (given : ℕ) → IsToldUnread of detail at why Told given → (given ≡ 7 → ⊥) → ⊥
   names_had (Some bytes) names at is same few why there because of detail Told given told_so small =
       can_be_had at (bytes, is, subst (λ n. is_long_there n ≡ false) (sym same) few) why because of detail Told given told_so small
   names_had None names at is same few (unread.Unopened reason) there because of detail Told given told_so small = there because.1
   names_had None names at is same few unread.Failed there because of detail Told given told_so small = still 0 0 refl refl because.3
   names_had None names at is same few unread.TooLarge there because of detail Told given told_so small = let opened = because.1 in absurd cc
-  names_had None names at is same few unread.NoMemory there because of detail Told given told_so small = absurd (omega (arith, small, told_so.1))
+  names_had None names at is same few unread.NoMemory there because of detail Told given told_so small = absurd (small told_so.1)
 
   names_there : (asked : Bool) (path names : Option (List ℕ)) (at : Text) → names_at files asked path ≡ names → is_long_there names ≡ false → (if asked then path else None) ≡ Some at
       → (why : FileUnread) → IsThere why → ExplainsUnread (Opens files) (Refuses files) told never at why
-      → (of : Beside) (detail : Option Paths) (Told : List ℕ → Type 0) (given : ℕ) → IsToldUnread of detail at why Told given → given ≤ 6 → ⊥
+      → (of : Beside) (detail : Option Paths) (Told : List ℕ → Type 0) (given : ℕ) → IsToldUnread of detail at why Told given → (given ≡ 7 → ⊥) → ⊥
   names_there false path names at same few is = absurd cc
   names_there true None names at same few is = absurd cc
   names_there true (Some path) names at same few is =
@@ -248,7 +249,7 @@ module _ (files : Files) where
   beside_there : (line : Line) (b : Bytes) (file : List ℕ) (changes names : Option (List ℕ)) → HasFiles files line b file changes names
       → (of : Beside) (at : Text) → path_beside line of ≡ Some at → (why : FileUnread) → (of ≡ beside.Names → IsThere why)
       → ExplainsUnread (Opens files) (Refuses files) told never at why
-      → (detail : Option Paths) (Told : List ℕ → Type 0) (given : ℕ) → IsToldUnread of detail at why Told given → given ≤ 6 → ⊥
+      → (detail : Option Paths) (Told : List ℕ → Type 0) (given : ℕ) → IsToldUnread of detail at why Told given → (given ≡ 7 → ⊥) → ⊥
   beside_there line b file changes names has beside.Changes at is why there because =
       can_be_had at (changes_held line.changes changes at has.changed has.few_changes is) why because beside.Changes
   beside_there line b file changes names has beside.Names at is why there because =
@@ -332,9 +333,16 @@ module _ (questions : MemFile) (detail : Option Paths) (changes : Option (List �
     ]
   ]
 
+never_stopped : (n : ℕ) → Contains (0 ∷ 3 ∷ 6 ∷ 7 ∷ []) n → n ≡ 8 → ⊥
+never_stopped n (zero, low, is) eight = omega (arith, is, eight)
+never_stopped n (suc zero, low, is) eight = omega (arith, is, eight)
+never_stopped n (suc (suc zero), low, is) eight = omega (arith, is, eight)
+never_stopped n (suc (suc (suc zero)), low, is) eight = omega (arith, is, eight)
+never_stopped n (suc (suc (suc (suc k))), low, is) eight = omega (arith, low)
+
 -- ---- the program
 
-module _ (questions : MemFile) (words : List Text) (files : Files) (s : Streams) (given : ℕ) (few : given ≤ 6) (b : Bytes) (over : SaysOver words files b)
+module _ (questions : MemFile) (words : List Text) (files : Files) (s : Streams) (given : ℕ) (few : given ≡ 7 → ⊥) (b : Bytes) (over : SaysOver words files b)
     (Done : Type 0) (call : Option Task) (is : task_in over.line over.file over.changes over.names (detail_in over.line) ≡ call)
     (done : (from to : FiveTables MemFile) → TellBytes told from b → RanCall told never told never call over.line over.changes over.names from to questions s given → Done) where
   abbrev own : Line
@@ -384,7 +392,7 @@ module _ (questions : MemFile) (words : List Text) (files : Files) (s : Streams)
     | inr rest ↦ elim rest [
       | inl misworded ↦ absurd (none_among misworded.kind misworded.among)
       | inr later ↦ elim later [
-        | inl memory ↦ absurd (omega (arith, few, memory.status))
+        | inl memory ↦ absurd (few memory.status)
         | inr said ↦ over_line (subst Ends (same_said (named words) said.line own said.says over.says) said.ends)
       ]
     ]
@@ -398,7 +406,7 @@ module _ (questions : MemFile) (words : List Text) (files : Files) (s : Streams)
   program_left same ends = elim ends [
     | inl garbled ↦ absurd garbled.0
     | inr rest ↦ elim rest [
-      | inl memory ↦ absurd (omega (arith, few, memory.status))
+      | inl memory ↦ absurd (few memory.status)
       | inr by ↦ by_words (subst (λ w. EndsGiven _ Ends w s given) (same by.0 by.1) by.2)
     ]
   ]
@@ -416,7 +424,7 @@ module _ (questions : MemFile) (words : List Text) (files : Files) (s : Streams)
   pub task_left : {gives : List Text → Type 0} {Sample : Type 0} → ((given : List Text) → gives given → given ≡ words) → (form : Form) (task : Task)
       → AsksOver words files form task b → EndsProgram gives ⊥ Sample EndsSo s given → IsAnswered (left_by form task b) s.out_old s.out_new s.err_old s.err_new given
   task_left same form task asks =
-      program_left questions words files s given few b asks.over _ (Some task) asks.asks
+      program_left questions words files s given (λ seven. omega (arith, seven, few)) b asks.over _ (Some task) asks.asks
       (λ from to tell ran. job_left told never form task from to s given b tell (no_rise from to) out_before out_after err_before err_after few
       (subst (λ (f : Form). RanJob told never f task from to s given) asks.formed ran)) same
 
@@ -427,8 +435,23 @@ module _ (questions : MemFile) (words : List Text) (files : Files) (s : Streams)
   session_held same holds lines is short ends =
       let few_bytes : length (file_bytes questions) < most_passed = rw is short in
       subst (λ (q : List ℕ). IsAnswered (held_by holds q) s.out_old s.out_new s.err_old s.err_new given) is
-      (program_left questions words files s given few b holds.over _ None holds.asks
+      (program_left questions words files s given (λ seven. omega (arith, seven, few)) b holds.over _ None holds.asks
       (λ from to tell ran. session_left questions (detail_in holds.over.line) holds.over.changes (terms_with holds.over.line.version holds.over.names) from to s given b tell first out_before out_after
       err_before err_after few few_bytes
       (subst (λ (n : Option ℕ). HeldSession told never told never (detail_in holds.over.line) holds.over.changes (terms_with holds.over.line.version holds.over.names) n from to questions s given) holds.whole ran))
       same ends)
+
+-- where a search stopped
+module _ (questions : MemFile) (words : List Text) (files : Files) (s : Streams) (given : ℕ) (eight : given ≡ 8) (b : Bytes) where
+  -- the task is one that may stop
+  pub task_stopped : {gives : List Text → Type 0} {Sample : Type 0} → ((given : List Text) → gives given → given ≡ words) → (form : Form) (task : Task)
+      → AsksOver words files form task b → EndsProgram gives ⊥ Sample (λ line. EndsLine (RanHeaders told never told never questions line s given) (EndsForLine (Opens files) (Refuses files) told never told never questions line s given) line) s given → TaskMayStop task b
+  task_stopped same form task asks =
+      program_left questions words files s given (λ seven. omega (arith, seven, eight)) b asks.over _ (Some task) asks.asks (λ from to tell ran. ran.ran.stopped eight b tell) same
+
+  -- and it is no session
+  pub none_held : {gives : List Text → Type 0} {Sample : Type 0} → ((given : List Text) → gives given → given ≡ words) → (holds : HoldsOver words files b)
+      → EndsProgram gives ⊥ Sample (λ line. EndsLine (RanHeaders told never told never questions line s given) (EndsForLine (Opens files) (Refuses files) told never told never questions line s given) line) s given → ⊥
+  none_held same holds =
+      program_left questions words files s given (λ seven. omega (arith, seven, eight)) b holds.over _ None holds.asks (λ from to tell ran. never_stopped given ran.1.status eight) same
+

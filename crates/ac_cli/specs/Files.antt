@@ -1,14 +1,16 @@
 -- The files of the tables: which was opened for which; and the bytes of the file that is read beside them.
-use Rattle.std.specs.Prelude.{◌≡◌, ◌⊎◌, ⊤, Bool, true, false, List, [], ℕ, codes, Option, Some, None}
+use Rattle.std.specs.Prelude.{◌≡◌, ◌⊎◌, ⊤, Bool, true, false, List, [], ◌∷◌, ℕ, codes, Option, Some, None}
+use Rattle.std.specs.List.{AllByRecursion}
 use Rattle.ac_base.specs.Devices.{Rises}
 use Rattle.ac_run.specs.Tasks.{Paths}
 use Rattle.ac_cli.specs.declared.files.FileUnread.{FileUnread}
 use Rattle.ac_cli.specs.declared.files.FileUnread.TheVariants as unread
 use Rattle.ac_cli.specs.declared.files.NamesTable.{NamesTable}
-use Rattle.ac_cli.specs.declared.files.NamesTable.TheVariants as table
+use Rattle.ac_cli.specs.declared.files.NamesTable.TheVariants as names
 use Rattle.ac_tables.specs.Drain.{AllBytes, AreTooMany}
 use Rattle.ac_tables.specs.FiveTables.{table_in}
 use Rattle.ac_tables.specs.declared.fault.Table.{Table}
+use Rattle.ac_tables.specs.declared.fault.Table.TheVariants as table
 use Rattle.ac_tables.specs.declared.read.FiveTables.{FiveTables}
 
 -- where a path is given, what was opened at it; else nothing
@@ -21,6 +23,18 @@ IsOpened opens (Some path) (Some feed) = opens path feed
 -- each table has what was opened at its path
 abbrev pub AreOpened : {R : Type 0} → (List ℕ → R → Type 0) → Paths → FiveTables R → Type 0
 AreOpened opens paths inputs = (t : Table) → IsOpened opens (table_in paths t) (table_in inputs t)
+
+-- the tables before one, in their order
+abbrev pub tables_before : Table → List Table
+tables_before table.Providers = []
+tables_before table.Inventories = table.Providers ∷ []
+tables_before table.Usages = table.Providers ∷ table.Inventories ∷ []
+tables_before table.Traits = table.Providers ∷ table.Inventories ∷ table.Usages ∷ []
+tables_before table.Aggregates = table.Providers ∷ table.Inventories ∷ table.Usages ∷ table.Traits ∷ []
+
+-- each of them has what was opened at its path
+abbrev pub AreOpenedBefore : {R : Type 0} → (List ℕ → R → Type 0) → Paths → Table → Type 0
+AreOpenedBefore {R} opens paths t = AllByRecursion (λ before. (feed : Option R) × IsOpened opens (table_in paths before) feed) (tables_before t)
 
 -- ---- a file beside them
 
@@ -60,9 +74,9 @@ names_header = codes "uuid,name\n"
 
 -- its text, where names stand in place of UUIDs: the header alone, where there is no file
 abbrev pub names_text : NamesTable → Option (List ℕ)
-names_text table.Unasked = None
-names_text table.Absent = Some names_header
-names_text (table.Read bytes) = Some bytes.items
+names_text names.Unasked = None
+names_text names.Absent = Some names_header
+names_text (names.Read bytes) = Some bytes.items
 
 -- what was opened at its path gave all these bytes, or there is no such file; without a path it is the header alone, and where names aren't asked for there is none
 abbrev pub HoldsNames : {R : Type 0} → (List ℕ → R → Type 0) → (List ℕ → List ℕ → Type 0) → (R → Option (List ℕ)) → Bool → Option (List ℕ) → Option (List ℕ) → Type 0

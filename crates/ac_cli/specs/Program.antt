@@ -1,5 +1,5 @@
 -- How the program ends, and what it leaves on its streams.
-use Rattle.std.specs.Prelude.{◌≡◌, ◌≢◌, ◌<◌, ◌≤◌, ◌⊎◌, ℕ, List, [], ◌∷◌, ◌++◌, codes, length, nat_le, Option, Some, None, Contains, if◌then◌else◌, true, false}
+use Rattle.std.specs.Prelude.{◌≡◌, ◌≢◌, ◌<◌, ◌≤◌, ◌⊎◌, ⊤, ℕ, Bool, List, [], ◌∷◌, ◌++◌, codes, length, nat_le, Option, Some, None, Contains, if◌then◌else◌, true, false}
 use Rattle.std.specs.Io.KnownBytes.{Appends, Keeps, append_known}
 use Rattle.clap.specs.Words.{IsAmong, Kinds, Row, Text}
 use Rattle.clap.specs.declared.error.kind.ErrorKind.{ErrorKind}
@@ -30,12 +30,12 @@ use Rattle.ac_session.specs.Turns.{lines_in}
 use Rattle.ac_session.specs.Turns.Named.{Terms, terms_with}
 use Rattle.ac_tables.specs.declared.read.FiveTables.{FiveTables}
 use Rattle.ac_cli.specs.Forms.{formed}
-use Rattle.ac_cli.specs.Files.{AreOpened, ExplainsUnread, HoldsChanges, HoldsFile, HoldsNames, IsThere}
+use Rattle.ac_cli.specs.Files.{AreOpened, AreOpenedBefore, ExplainsUnread, HoldsChanges, HoldsFile, HoldsNames, IsThere}
 use Rattle.ac_cli.specs.declared.files.Beside.{Beside}
 use Rattle.ac_cli.specs.declared.files.Beside.TheVariants as beside
 use Rattle.ac_cli.specs.declared.files.FileUnread.{FileUnread}
 use Rattle.ac_cli.specs.declared.files.FileUnread.TheVariants as unread
-use Rattle.ac_words.specs.Words.{Call, Line, Says, calls_answer, faults, file_called, is_tabled, named, task_in}
+use Rattle.ac_words.specs.Words.{Call, Line, Says, calls_answer, faults, file_called, is_tabled, named, session, task_in}
 use Rattle.ac_words.specs.declared.form.Form.{Form}
 use Rattle.ac_words.specs.declared.form.Form.TheVariants.{Csv}
 use Rattle.ac_words.specs.declared.name.Name.{Name}
@@ -164,6 +164,15 @@ HeldSession {R} {Q} remaining failures asked fails detail changes terms tries fr
 abbrev pub detail_in : Line → Option Paths
 detail_in line = if line.detail then Some line.paths else None
 
+-- a call asks for a session
+abbrev pub is_session : Call → Bool
+is_session session = true
+is_session _ = false
+
+-- no line that words say asks for a session
+abbrev pub AskNoSession : Option (Name × List Row) → Type 0
+AskNoSession found = (line : Line) → Says found line → is_session line.call ≡ false
+
 -- what a line calls for was done over feeds of tables that were these before and after: a task was run, or a session was held
 abbrev pub RanCall : {R Q : Type 0} → (R → Option (List ℕ)) → (R → ℕ) → (Q → Option (List ℕ)) → (Q → ℕ)
     → Option Task → Line → Option (List ℕ) → Option (List ℕ) → FiveTables R → FiveTables R → Q → Streams → ℕ → Type 0
@@ -177,9 +186,10 @@ IsToldUnopened None table path reason Told given = Told (unreadable_line table) 
 IsToldUnopened (Some paths) table path reason Told given =
     (Told (unreadable_line table ++ unread_remedy path (Some reason)) × (given ≡ 3)) ⊎ (Told memory_line × (given ≡ 7))
 
--- The path that is given for a table was refused, which is told.
-pub record IsUnopened (refuses : List ℕ → List ℕ → Type 0) (line : Line) (s : Streams) (given : ℕ) : Type 0 where
+-- The path that is given for a table was refused, which is told. The files of those before it were opened.
+pub record IsUnopened {R : Type 0} (opens : List ℕ → R → Type 0) (refuses : List ℕ → List ℕ → Type 0) (line : Line) (s : Streams) (given : ℕ) : Type 0 where
   pub table : Table
+  pub before : AreOpenedBefore opens line.paths table
   pub path : Text
   pub reason : Text
   pub named : table_in line.paths table ≡ Some path
@@ -233,11 +243,21 @@ path_beside line beside.Changes = line.changes
 path_beside line beside.Names = names_path line
 path_beside line _ = file_called line.call
 
--- The bytes of a file that is read beside the tables can't be had, which is told.
+-- what is read before such a file was read: the changes before the table of names, and both before the rest
+abbrev pub AreReadBefore : {R : Type 0} → (List ℕ → R → Type 0) → (List ℕ → List ℕ → Type 0) → (R → Option (List ℕ)) → Line → Beside → Type 0
+AreReadBefore opens refuses remaining line beside.Changes = ⊤
+AreReadBefore opens refuses remaining line beside.Names = (changes : Option (List ℕ)) × HoldsChanges opens remaining line.changes changes
+AreReadBefore opens refuses remaining line _ =
+    (changes : Option (List ℕ)) × (names : Option (List ℕ)) × HoldsChanges opens remaining line.changes changes × HoldsNames opens refuses remaining line.names line.aggregate_names names
+
+-- The bytes of a file that is read beside the tables can't be had, which is told. The tables were opened, and what is read before it was read.
 pub record LacksFile {R : Type 0} (opens : List ℕ → R → Type 0) (refuses : List ℕ → List ℕ → Type 0) (remaining : R → Option (List ℕ)) (failures : R → ℕ)
     (line : Line) (s : Streams) (given : ℕ) : Type 0 where
+  pub tables : FiveTables R
+  pub files : AreOpened opens line.paths tables
   pub of : Beside
   pub one : Contains (beside.Changes ∷ beside.Names ∷ beside_called line.call ∷ []) of
+  pub before : AreReadBefore opens refuses remaining line of
   pub path : Text
   pub named : path_beside line of ≡ Some path
   pub why : FileUnread
@@ -282,7 +302,7 @@ pub record RanOpened {R Q : Type 0} (opens : List ℕ → R → Type 0) (refuses
 abbrev pub EndsForLine : {R Q : Type 0} → (List ℕ → R → Type 0) → (List ℕ → List ℕ → Type 0) → (R → Option (List ℕ)) → (R → ℕ) → (Q → Option (List ℕ)) → (Q → ℕ)
     → Q → Line → Streams → ℕ → Type 0
 EndsForLine opens refuses remaining failures asked fails questions line s given =
-    IsUnopened refuses line s given
+    IsUnopened opens refuses line s given
     ⊎ (LacksFile opens refuses remaining failures line s given ⊎ RanOpened opens refuses remaining failures asked fails questions line s given)
 
 -- how a line ends: over the headers of the tables, if what it calls for is about none; else over what is opened

@@ -1,6 +1,6 @@
 //! The files of the tables, and those that are read beside them.
 ghost use Rattle.std.specs.Prelude.{◌≡◌, IfErr, IfOk, Some, option_map};
-ghost use Rattle.ac_cli.specs.Files.{AreOpened, ExplainsUnread, Holds, IsOpened, names_text};
+ghost use Rattle.ac_cli.specs.Files.{AreOpened, AreOpenedBefore, ExplainsUnread, Holds, IsOpened, names_text};
 ghost use Rattle.ac_run.specs.Tasks.{paths_shown};
 ghost use Rattle.ac_tables.specs.FiveTables.{table_in};
 
@@ -60,6 +60,8 @@ pub fn opened_inputs<'a, H: Host>(
     ensures fault { IfErr result (λ told.
         (table_in (paths_shown paths.now) told.table ≡ Some told.path.now)
         × H.refuses host.now told.path.now told.reason.now) }
+    ensures before { IfErr result (λ told.
+        AreOpenedBefore (H.opens host.now) (paths_shown paths.now) told.table) }
 {
     Ok(Inputs {
         providers: opened(host, Table::Providers, paths.providers)?,

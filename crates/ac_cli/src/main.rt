@@ -16,7 +16,7 @@ pub use ac_words::{WordFault, Words, read_words};
 use std::process::ExitCode;
 
 fn main(rt: HostRuntime) -> ExitCode {
-    let (status, _out) = program::answer(
+    let (status, _out, _questions) = program::answer(
         &rt,
         FromRead::new(rt.stdin()),
         ToWrite::new(rt.stdout()),

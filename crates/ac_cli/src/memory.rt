@@ -3,12 +3,14 @@ ghost use Rattle.std.specs.Prelude.{◌≡◌, ◌<◌, Err, IfOk, IfSome, None,
 ghost use Rattle.std.specs.Str.{bytes_eq};
 ghost use Rattle.ac_base.specs.Devices.{PullGives, PushTakes, breaks_after_pull, breaks_after_push, failures_after_pull, failures_after_push};
 ghost use Rattle.ac_run.specs.Feeds.{Bytes};
+ghost use Rattle.ac_run.specs.Stops.{TaskMayStop};
 ghost use Rattle.ac_run.specs.Tasks.{Task};
 ghost use Rattle.ac_cli.specs.Files.{missing_reason};
 ghost use Rattle.ac_cli.specs.InMemory.{AsksOver, HoldsOver, IsLeft, WordsAsk, bytes_at, file_bytes, files_shown, held_by, left_by, words_shown};
 ghost use Rattle.ac_session.specs.Lines.{most_passed};
 ghost use Rattle.ac_words.specs.declared.form.Form.{Form};
 ghost use Rattle.ac_cli.specs.declared.host.Unworded.TheVariants as Unworded;
+ghost use Rattle.ac_cli.specs.declared.memory.Ungiven.TheVariants as Ungiven;
 
 use crate::host::{Host, Unworded};
 use crate::program::answer as program;
@@ -185,20 +187,33 @@ pub struct Left {
     pub status: u8,
 }
 
-/// Runs the whole program over words, of which the first is its own name, over files by their paths, and over the lines of a session; nothing is given where
-/// memory gave out, or a search made as many tries as it may.
+/// Why nothing is given of what it left.
+#[derive(Clone, Copy, Debug, PartialEq, Eq)]
+pub enum Ungiven {
+    /// Memory gave out.
+    NoMemory,
+    /// A search made as many tries as it may.
+    Stopped,
+}
+
+/// Runs the whole program over words, of which the first is its own name, over files by their paths, and over the lines of a session.
 pub fn answer_in_memory(
     alloc: Global,
     words: &[&str],
     files: &[(&str, &[u8])],
     questions: &[u8],
-) -> Option<Left>
-    ensures task { IfSome result (λ left. (form : Form) (task : Task) (b : Bytes)
+) -> Result<Left, Ungiven>
+    ensures task { IfOk result (λ left. (form : Form) (task : Task) (b : Bytes)
         → AsksOver (words_shown words.now) (files_shown files.now) form task b
         → IsLeft (left_by form task b) left) }
-    ensures session { length questions.now < most_passed → IfSome result (λ left. (b : Bytes)
+    ensures session { length questions.now < most_passed → IfOk result (λ left. (b : Bytes)
         (holds : HoldsOver (words_shown words.now) (files_shown files.now) b)
         → IsLeft (held_by holds questions.now) left) }
+    ensures stopped { result ≡ Err Ungiven.Stopped → (form : Form) (task : Task) (b : Bytes)
+        → AsksOver (words_shown words.now) (files_shown files.now) form task b
+        → TaskMayStop task b }
+    ensures held { result ≡ Err Ungiven.Stopped → (b : Bytes)
+        → HoldsOver (words_shown words.now) (files_shown files.now) b → ⊥ }
 {
     let host = MemHost {
         alloc,
@@ -207,11 +222,14 @@ pub fn answer_in_memory(
     };
     let mut err = Written::new(alloc);
     let questions = MemFile::new(questions);
-    let (status, out) = program(&host, questions, Written::new(alloc), &mut err);
-    if status > 6 || out.failures > 0 || err.failures > 0 {
-        return None;
+    let (status, out, _questions) = program(&host, questions, Written::new(alloc), &mut err);
+    if status == 8 {
+        return Err(Ungiven::Stopped);
     }
-    Some(Left {
+    if status > 6 || out.failures > 0 || err.failures > 0 {
+        return Err(Ungiven::NoMemory);
+    }
+    Ok(Left {
         output: out.bytes,
         errors: err.bytes,
         status,

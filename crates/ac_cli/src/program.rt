@@ -1,5 +1,5 @@
 //! The program around a run: its words, its files and its streams.
-ghost use Rattle.std.specs.Prelude.{◌≡◌, ◌≤◌, ◌⊎◌, IfErr, IfOk, Some, false, map, option_map, string_bytes};
+ghost use Rattle.std.specs.Prelude.{◌≡◌, ◌≤◌, ◌⊎◌, ℕ, IfErr, IfOk, List, Some, false, map, option_map, string_bytes};
 ghost use Rattle.std.specs.Io.KnownBytes.{Appends};
 ghost use Rattle.ac_base.specs.Devices.{Rises, TakesPart};
 ghost use Rattle.ac_base.specs.Writing.{TakesLine};
@@ -7,12 +7,12 @@ ghost use Rattle.ac_run.specs.Feeds.{Bytes, TellBytes};
 ghost use Rattle.ac_run.specs.Lines.{memory_line};
 ghost use Rattle.ac_run.specs.Notes.{noted};
 ghost use Rattle.ac_run.specs.Tasks.{changes_shown, command_shown, detail_shown, paths_shown, task_of};
-ghost use Rattle.ac_cli.specs.Program.{beside_called, EndsForLine, EndsForWords, EndsLine, EndsProgram, HeldSession, IsShown, IsToldUnopened, IsToldUnread, RanCall, RanHeaders, RanJob, RanSample, RanTask, detail_in, file_status, large_said, names_path, note_behind, seen, unread_said, unread_told};
+ghost use Rattle.ac_cli.specs.Program.{AskNoSession, beside_called, EndsForLine, EndsForWords, EndsLine, EndsProgram, HeldSession, IsShown, is_session, IsToldUnopened, IsToldUnread, RanCall, RanHeaders, RanJob, RanSample, RanTask, detail_in, file_status, large_said, names_path, note_behind, seen, unread_said, unread_told};
 ghost use Rattle.ac_run.specs.Refusals.{line_of, status_of};
 ghost use Rattle.ac_session.specs.Turns.Named.{terms_with};
 ghost use Rattle.ac_words.specs.declared.form.Form.TheVariants.{Csv};
 ghost use Rattle.ac_cli.specs.Files.{ExplainsUnread, HoldsChanges, HoldsFile, HoldsNames, IsThere, names_text};
-ghost use Rattle.ac_words.specs.Words.{file_called, is_tabled, task_in};
+ghost use Rattle.ac_words.specs.Words.{file_called, is_tabled, named, task_in};
 
 use crate::files::{Beside, FileUnread, NamesTable, Unopened, opened_inputs, read_file};
 use crate::forms::in_form;
@@ -32,6 +32,9 @@ use std::alloc::Global;
 
 // How many bytes of output are gathered before they are handed on.
 const ROOM: usize = 65536;
+
+/// How the program ended: its status, its output sink, and the questions, unless it held a session.
+pub type Ended<W, Q> = (u8, W, Option<Q>);
 
 // Tells a text. What the sink doesn't take of it is dropped.
 fn tell_text<E: Sink>(err: &mut E, text: &[u8])
@@ -383,29 +386,36 @@ fn answer_opened<F: Feed, Q: Feed + Drop, W: Sink + Drop, E: Sink>(
     questions: Q,
     out: W,
     err: &mut E,
-) -> (u8, W)
-    ensures { RanCall F.remaining F.failures Q.remaining Q.failures
+) -> Ended<W, Q>
+    ensures ran { RanCall F.remaining F.failures Q.remaining Q.failures
         (task_in words.now file.now (changes_shown changes.entry) (changes_shown names.entry)
         (detail_in words.now)) words.now
         (changes_shown changes.entry) (changes_shown names.entry) inputs.old inputs.new questions
         (seen W.taken W.failures E.taken E.failures out result.1 err.old err.new) result.0 }
+    ensures unasked { is_session words.now.call ≡ false → result.2 ≡ Some questions }
 {
     let paths = words.paths();
     let detail = detail_of(words, &paths);
     match words.job(file, changes, names, detail) {
-        Some(job) => ran_job(alloc, words.form(), &job, inputs, out, err),
-        None => held(
-            alloc,
-            words.version(),
-            words.tries(),
-            detail,
-            changes,
-            names,
-            inputs,
-            questions,
-            out,
-            err,
-        ),
+        Some(job) => {
+            let (status, out) = ran_job(alloc, words.form(), &job, inputs, out, err);
+            (status, out, Some(questions))
+        }
+        None => {
+            let (status, out) = held(
+                alloc,
+                words.version(),
+                words.tries(),
+                detail,
+                changes,
+                names,
+                inputs,
+                questions,
+                out,
+                err,
+            );
+            (status, out, None)
+        }
     }
 }
 
@@ -416,44 +426,42 @@ fn answer_tabled<H: Host + AllocGlobal, Q: Feed + Drop, W: Sink + Drop, E: Sink>
     questions: Q,
     out: W,
     err: &mut E,
-) -> (u8, W)
-    ensures { EndsForLine (H.opens host.now)
+) -> Ended<W, Q>
+    ensures ends { EndsForLine (H.opens host.now)
         (H.refuses host.now) H.File.remaining H.File.failures Q.remaining Q.failures questions
         words.now (seen W.taken W.failures E.taken E.failures out result.1 err.old err.new)
         result.0 }
+    ensures unasked { is_session words.now.call ≡ false → result.2 ≡ Some questions }
 {
     let alloc = host.alloc();
     let paths = words.paths();
     let detail = detail_of(words, &paths);
     let mut inputs = match opened_inputs(host, &paths) {
         Ok(inputs) => inputs,
-        Err(unopened) => return (tell_unopened(alloc, detail, &unopened, err), out),
+        Err(unopened) => {
+            let status = tell_unopened(alloc, detail, &unopened, err);
+            return (status, out, Some(questions));
+        }
     };
     let changes = match changes_of(alloc, host, words) {
         Ok(changes) => changes,
         Err((path, unread)) => {
-            return (
-                tell_unread(alloc, Beside::Changes, detail, path, unread, err),
-                out,
-            );
+            let status = tell_unread(alloc, Beside::Changes, detail, path, unread, err);
+            return (status, out, Some(questions));
         }
     };
     let names = match names_of(alloc, host, words) {
         Ok(names) => names,
         Err((path, unread)) => {
-            return (
-                tell_unread(alloc, Beside::Names, detail, path, unread, err),
-                out,
-            );
+            let status = tell_unread(alloc, Beside::Names, detail, path, unread, err);
+            return (status, out, Some(questions));
         }
     };
     let file = match file_of(alloc, host, words) {
         Ok(file) => file,
         Err((path, unread)) => {
-            return (
-                tell_unread(alloc, beside_of(words), detail, path, unread, err),
-                out,
-            );
+            let status = tell_unread(alloc, beside_of(words), detail, path, unread, err);
+            return (status, out, Some(questions));
         }
     };
     answer_opened(
@@ -476,11 +484,12 @@ fn answer_headers<Q: Feed + Drop, W: Sink + Drop, E: Sink>(
     questions: Q,
     out: W,
     err: &mut E,
-) -> (u8, W)
+) -> Ended<W, Q>
     requires { is_tabled words.now.call ≡ false }
-    ensures { RanHeaders ⟦<MemFile<'static> as Feed>⟧.remaining
+    ensures ran { RanHeaders ⟦<MemFile<'static> as Feed>⟧.remaining
         ⟦<MemFile<'static> as Feed>⟧.failures Q.remaining Q.failures questions words.now
         (seen W.taken W.failures E.taken E.failures out result.1 err.old err.new) result.0 }
+    ensures unasked { is_session words.now.call ≡ false → result.2 ≡ Some questions }
 {
     let mut inputs = sample::headers();
     answer_opened(
@@ -503,8 +512,8 @@ fn answer_line<H: Host + AllocGlobal, Q: Feed + Drop, W: Sink + Drop, E: Sink>(
     questions: Q,
     out: W,
     err: &mut E,
-) -> (u8, W)
-    ensures { EndsLine (RanHeaders
+) -> Ended<W, Q>
+    ensures ends { EndsLine (RanHeaders
         ⟦<MemFile<'static> as Feed>⟧.remaining ⟦<MemFile<'static> as Feed>⟧.failures
         Q.remaining Q.failures questions words.now (seen W.taken W.failures E.taken E.failures out
         result.1 err.old err.new) result.0)
@@ -512,6 +521,7 @@ fn answer_line<H: Host + AllocGlobal, Q: Feed + Drop, W: Sink + Drop, E: Sink>(
         Q.remaining Q.failures questions words.now
         (seen W.taken W.failures E.taken E.failures out result.1 err.old err.new) result.0)
         words.now }
+    ensures unasked { is_session words.now.call ≡ false → result.2 ≡ Some questions }
 {
     if words.is_tabled() {
         answer_tabled(host, words, questions, out, err)
@@ -527,8 +537,8 @@ fn answer_words<H: Host + AllocGlobal, Q: Feed + Drop, W: Sink + Drop, E: Sink>(
     questions: Q,
     out: W,
     err: &mut E,
-) -> (u8, W)
-    ensures { EndsForWords (λ line. EndsLine (RanHeaders
+) -> Ended<W, Q>
+    ensures ends { EndsForWords (λ line. EndsLine (RanHeaders
         ⟦<MemFile<'static> as Feed>⟧.remaining ⟦<MemFile<'static> as Feed>⟧.failures
         Q.remaining Q.failures questions line (seen W.taken W.failures E.taken E.failures out
         result.1 err.old err.new) result.0)
@@ -538,10 +548,12 @@ fn answer_words<H: Host + AllocGlobal, Q: Feed + Drop, W: Sink + Drop, E: Sink>(
         line)
         (map string_bytes given.now) (seen W.taken W.failures E.taken E.failures out result.1
         err.old err.new) result.0 }
+    ensures unasked { AskNoSession (named (map string_bytes given.now))
+        → result.2 ≡ Some questions }
 {
     let alloc = host.alloc();
-    match read_words(alloc, given) {
-        Ok(words) => answer_line(host, &words, questions, out, err),
+    let (status, out) = match read_words(alloc, given) {
+        Ok(words) => return answer_line(host, &words, questions, out, err),
         Err(WordFault::Help(text)) => show(alloc, text.as_bytes(), 0, out, err),
         Err(WordFault::Version(text)) => show(alloc, text.as_bytes(), 0, out, err),
         Err(WordFault::Refused(text)) => {
@@ -549,7 +561,8 @@ fn answer_words<H: Host + AllocGlobal, Q: Feed + Drop, W: Sink + Drop, E: Sink>(
             (2, out)
         }
         Err(WordFault::NoMemory) => (tell(err, &Refused::of(alloc, Refusal::NoMemory)), out),
-    }
+    };
+    (status, out, Some(questions))
 }
 
 // Runs the job of the sample.
@@ -569,7 +582,7 @@ fn answer_sample<W: Sink + Drop, E: Sink>(alloc: Global, out: W, err: &mut E) ->
     )
 }
 
-/// The whole program: its exit status, and the output sink. The questions are read for a session alone.
+/// The whole program. The questions are read for a session alone, and else given back as they are.
 ///
 /// Fewer than two words, of which the first is the program's own name, are a call for the sample.
 pub fn answer<H: Host + AllocGlobal, Q: Feed + Drop, W: Sink + Drop, E: Sink>(
@@ -577,11 +590,12 @@ pub fn answer<H: Host + AllocGlobal, Q: Feed + Drop, W: Sink + Drop, E: Sink>(
     questions: Q,
     out: W,
     err: &mut E,
-) -> (u8, W)
-    ensures { EndsProgram (H.gives host.now) (H.garbles host.now)
+) -> Ended<W, Q>
+    ensures ends { EndsProgram (H.gives host.now) (H.garbles host.now)
         (RanSample ⟦<MemFile<'static> as Feed>⟧.remaining
         ⟦<MemFile<'static> as Feed>⟧.failures
-        (seen W.taken W.failures E.taken E.failures out result.1 err.old err.new) result.0) (λ line. EndsLine (RanHeaders
+        (seen W.taken W.failures E.taken E.failures out result.1 err.old err.new) result.0)
+        (λ line. EndsLine (RanHeaders
         ⟦<MemFile<'static> as Feed>⟧.remaining ⟦<MemFile<'static> as Feed>⟧.failures
         Q.remaining Q.failures questions line (seen W.taken W.failures E.taken E.failures out
         result.1 err.old err.new) result.0)
@@ -590,23 +604,20 @@ pub fn answer<H: Host + AllocGlobal, Q: Feed + Drop, W: Sink + Drop, E: Sink>(
         (seen W.taken W.failures E.taken E.failures out result.1 err.old err.new) result.0)
         line)
         (seen W.taken W.failures E.taken E.failures out result.1 err.old err.new) result.0 }
+    ensures unasked { ((words : List (List ℕ)) → H.gives host.now words
+        → AskNoSession (named words)) → result.2 ≡ Some questions }
 {
-    match host.words() {
-        Ok(words) => {
-            if words.len() < 2 {
-                return answer_sample(host.alloc(), out, err);
-            }
-            answer_words(host, words.as_slice(), questions, out, err)
-        }
+    let (status, out) = match host.words() {
+        Ok(words) if words.len() < 2 => answer_sample(host.alloc(), out, err),
+        Ok(words) => return answer_words(host, words.as_slice(), questions, out, err),
         Err(Unworded::NotText) => {
             tell_text(err, b"error: the arguments are not UTF-8\n");
             (2, out)
         }
-        Err(Unworded::NoMemory) => {
-            (
-                tell(err, &Refused::of(host.alloc(), Refusal::NoMemory)),
-                out,
-            )
-        }
-    }
+        Err(Unworded::NoMemory) => (
+            tell(err, &Refused::of(host.alloc(), Refusal::NoMemory)),
+            out,
+        ),
+    };
+    (status, out, Some(questions))
 }

@@ -1,5 +1,5 @@
 -- Who comes furthest, by the greatest number.
-use Rattle.std.proofs.Common.{inl, inr, ◌≡◌, ◌∙◌, ◌<◌, ◌≤◌, ℕ, zero, suc, ◌+◌, ◌-◌, ◌*◌, ◌%◌, Bool, true, false, not, ◌&&◌, ◌||◌, ◌==◌, List, [], ◌∷◌, ◌++◌, length, nat_le, nat_lt, find, filter, get_or, Option, Some, None, refl, sym, subst, ap, arith, lt-ltb, le-ltb, ltb-true, ltb-false, eq-eqb, le-leb, ne_eqb, if◌then◌else◌}
+use Rattle.std.proofs.Common.{inl, inr, ◌⊎◌, ◌≡◌, ◌∙◌, ◌<◌, ◌≤◌, ℕ, zero, suc, ◌+◌, ◌-◌, ◌*◌, ◌%◌, Bool, true, false, not, ◌&&◌, ◌||◌, ◌==◌, List, [], ◌∷◌, ◌++◌, length, nat_le, nat_lt, find, filter, get_or, Option, Some, None, refl, sym, subst, ap, arith, slice_index_or, lt-ltb, le-ltb, ltb-true, ltb-false, eq-eqb, le-leb, ne_eqb, if◌then◌else◌}
 use Rattle.std.specs.List.{list_any, range_with_len, AllByRecursion as Each}
 use Rattle.std.specs.Option.{is_some, option_map, option_or, unwrap_or}
 use Rattle.std.proofs.lemmas.Bool.{cases_Bool, cases_eq, cases_lt, false≢true, or_left, or_right}
@@ -7,7 +7,7 @@ use Rattle.std.proofs.lemmas.Bool.Decides.{nat_tests}
 use Rattle.std.proofs.lemmas.Nat.{mod-mul-add}
 use Rattle.ac_query.specs.Asked.{Asked, Slot, slots_of}
 use Rattle.ac_cloud.specs.World.{Provider, is_available_at}
-use Rattle.ac_rules.specs.Placed.{slot_at}
+use Rattle.ac_rules.specs.Placed.{no_slot, slot_at}
 use Rattle.ac_rules.specs.Together.{takes_root}
 use Rattle.ac_prune.specs.Ahead.{hosts_of}
 use Rattle.ac_prune.specs.Fitting.{fits_at}
@@ -15,7 +15,7 @@ use Rattle.ac_prune.specs.Trees.Keys.{is_there}
 use Rattle.ac_prune.proofs.Roots.RootLemmas.{hosts_low}
 use Rattle.ac_prune.proofs.Search.OpenLemmas.{range_with_len_more}
 use Rattle.ac_prune.proofs.Roots.TreeLemmas.{among_there, any_found, any_there, each_there}
-use Rattle.ac_rules.proofs.Elements.{among_filter, each_weaker}
+use Rattle.ac_rules.proofs.Elements.{Among, among_filter, each_among, each_weaker}
 use Rattle.ac_rules.proofs.EachSlot.AnchorLemmas.{each_range}
 use Rattle.ac_rules.proofs.Lists.ListLemmas.{among_range}
 use Rattle.ac_find.specs.Explained.{holds_required, in_slot}
@@ -27,11 +27,16 @@ use Rattle.ac_find.specs.declared.lacks.Lack.{Lack}
 use Rattle.ac_find.specs.declared.lacks.Lack.TheVariants as lack
 use Rattle.ac_find.specs.Shown.Furthest.{AreSmall, is_of_slot, place_in, rank, ranked, wanting_below}
 use Rattle.ac_find.proofs.LackingLemmas.{there_passes}
+use Rattle.ac_find.proofs.ToldLemmas.{finds, found}
 
 le_off : (a b : ℕ) → b < a → nat_le a b ≡ false
 le_off a b h = grind (arith, nat_tests, h)
 
 -- ---- Two numbers
+
+never : (x : Bool) → (false || (x && false)) ≡ false
+never true = refl
+never false = refl
 
 -- the front of a number, which is greater where a provider comes further
 further_ranked : (a b c d p q : ℕ) → b < 18446744073709551616 → d < 18446744073709551616 → (nat_lt c a || (c == a && nat_lt d b)) ≡ true → ranked c d q < ranked a b p
@@ -41,15 +46,11 @@ further_ranked a b c d p q small least h = elim (cases_lt c a) [
     | inl same ↦
         elim (cases_lt d b) [
           | inl less ↦ omega (arith, same, less)
-          | inr most ↦ absurd (false≢true (sym (rw (le-ltb c a fewer, le-ltb d b most) (none (c == a))) ∙ h))
+          | inr most ↦ absurd (false≢true (sym (rw (le-ltb c a fewer, le-ltb d b most) (never (c == a))) ∙ h))
         ]
     | inr other ↦ absurd (false≢true (sym (rw (le-ltb c a fewer, ne_eqb c a other) refl) ∙ h))
   ]
 ]
-  where
-    none : (x : Bool) → (false || (x && false)) ≡ false
-    none true = refl
-    none false = refl
 
 -- one at an earlier place comes further unless its number is less
 ranked_further : (a b c d p q : ℕ) → b < 18446744073709551616 → d < 18446744073709551616 → q < p → p < 4294967295 → ranked c d q ≤ ranked a b p → (nat_lt c a || (c == a && nat_lt d b)) ≡ true
@@ -178,6 +179,76 @@ module _ (all : List Provider) (slot : Slot) (r n : ℕ) (few : length all < 429
         ∙ (place_of_rank (count_met all (in_slot slot p)) (short_left all (in_slot slot p)) p (omega (arith, low_there p found.1, few)) ∙ sym (furthest_is p found.1 is))
   ]
 
+-- ---- Somebody comes furthest
+
+-- one comes no further than another, by the tests that it passes, and what is left beside them
+NoFurther : ℕ → ℕ → ℕ → ℕ → Type 0
+NoFurther c l d m = (c < d) ⊎ ((c ≡ d) × (l ≤ m))
+
+either : (c l d m : ℕ) → NoFurther c l d m ⊎ NoFurther d m c l
+unfolding NoFurther
+either c l d m = elim (cases_lt c d) [
+  | inl less ↦ inl (inl less)
+  | inr most ↦ elim (cases_eq c d) [
+    | inl same ↦ elim (cases_lt l m) [ inl few ↦ inl (inr (same, omega (arith, few))) | inr many ↦ inr (inr (sym same, many)) ]
+    | inr other ↦ inr (inl (omega (arith, most, other)))
+  ]
+]
+
+through : (c l d m e n : ℕ) → NoFurther c l d m → NoFurther d m e n → NoFurther c l e n
+unfolding NoFurther
+through c l d m e n first second = elim first [
+  | inl less ↦ elim second [ inl more ↦ inl (omega (arith, less, more)) | inr also ↦ inl (omega (arith, less, also.0)) ]
+  | inr same ↦ elim second [ inl more ↦ inl (omega (arith, same.0, more)) | inr also ↦ inr (same.0 ∙ also.0, omega (arith, same.1, also.1)) ]
+]
+
+itself : (c l : ℕ) → NoFurther c l c l
+unfolding NoFurther
+itself c l = inr (refl, omega arith)
+
+not_further : (c l d m : ℕ) → NoFurther c l d m → (nat_lt d c || (d == c && nat_lt m l)) ≡ false
+unfolding NoFurther
+not_further c l d m h = elim h [
+  | inl less ↦ rw (le-ltb d c (omega (arith, less)), ne_eqb d c (λ e. omega (arith, e, less))) refl
+  | inr same ↦ rw (le-ltb d c (omega (arith, same.0)), le-ltb m l same.1) (never (d == c))
+]
+
+-- of some there is one that none of them is beyond
+best : (c l : ℕ → ℕ) (x : ℕ) (xs : List ℕ) → (p : ℕ) × Among (x ∷ xs) p × Each (λ q. NoFurther (c q) (l q) (c p) (l p)) (x ∷ xs)
+best c l x [] = (x, inl refl, (itself (c x) (l x), tt))
+best c l x (y ∷ ys) =
+    let it = best c l y ys in
+    let p = it.0 in
+    elim (either (c x) (l x) (c p) (l p)) [
+      | inl below ↦ (p, inr it.1, (below, it.2))
+      | inr above ↦ (x, inl refl, (itself (c x) (l x), each_weaker (λ q. NoFurther (c q) (l q) (c p) (l p)) (λ q. NoFurther (c q) (l q) (c x) (l x)) (y ∷ ys)
+          (λ q here. through (c q) (l q) (c p) (l p) (c x) (l x) here above) it.2))
+    ]
+
+none_any : (f : ℕ → Bool) (xs : List ℕ) → Each (λ x. f x ≡ false) xs → list_any f xs ≡ false
+none_any f [] h = refl
+none_any f (x ∷ xs) h = rw (h.0, none_any f xs h.1) refl
+
+some_furthest : (all : List Provider) (slot : Slot) (ps : List ℕ) (p : ℕ) → Among ps p
+    → (q : ℕ) × (find (λ p. not (list_any (λ q. is_further all (in_slot slot q) (in_slot slot p)) ps)) ps ≡ Some q) × Among ps q
+some_furthest all slot [] p there = absurd there
+some_furthest all slot (x ∷ xs) p there =
+    let met = λ (p : ℕ). count_met all (in_slot slot p) in
+    let left = λ (p : ℕ). short_left all (in_slot slot p) in
+    let it = best met left x xs in
+    let is_last = λ (p : ℕ). not (list_any (λ q. is_further all (in_slot slot q) (in_slot slot p)) (x ∷ xs)) in
+    let last : is_last it.0 ≡ true = ap not (none_any (λ q. is_further all (in_slot slot q) (in_slot slot it.0)) (x ∷ xs)
+        (each_weaker (λ q. NoFurther (met q) (left q) (met it.0) (left it.0)) (λ q. is_further all (in_slot slot q) (in_slot slot it.0) ≡ false) (x ∷ xs)
+        (λ q here. not_further (met q) (left q) (met it.0) (left it.0) here) it.2)) in
+    elim (found is_last (x ∷ xs)) [
+      | inl here ↦ (here.0, here.1, (finds is_last (x ∷ xs) here.0 here.1).1)
+      | inr none ↦ absurd (false≢true (sym (each_among (λ p. is_last p ≡ false) (x ∷ xs) it.0 none it.1) ∙ last))
+    ]
+
+-- where somebody is available in the tree of a root
+pub furthest_there : (all : List Provider) (slot : Slot) (r p : ℕ) → Among (hosts_of all r) p → (q : ℕ) × (furthest all slot r ≡ Some q) × Among (hosts_of all r) q
+furthest_there all slot r p there = some_furthest all slot (hosts_of all r) p there
+
 -- ---- The first class that nobody has
 
 find_behind : (t : ℕ → Bool) (xs : List ℕ) (x : ℕ) → find t (xs ++ x ∷ []) ≡ option_or (find t xs) (if t x then Some x else None)
@@ -222,6 +293,68 @@ of_slot true (Some lacks) holds fits slot stage h = h
 of_slot true None false fits slot stage h = absurd (false≢true (ap is_slot h))
 of_slot true None true false slot stage h = absurd (false≢true (ap is_slot h))
 of_slot true None true true slot stage h = absurd (false≢true (ap is_slot h))
+
+-- it is the first of some slots that is lacking, or one behind it
+first_or_later : (number slot : ℕ) (stage : Stage) (found : Option Stage) (rest : Option Lack) → option_or (option_map (λ failed. lack.Slot number failed) found) rest ≡ Some (lack.Slot slot stage)
+    → ((number ≡ slot) × (found ≡ Some stage)) ⊎ (rest ≡ Some (lack.Slot slot stage))
+first_or_later number slot stage None rest h = inr h
+first_or_later number slot stage (Some failed) rest h = let same : Some (lack.Slot number failed) ≡ Some (lack.Slot slot stage) = h in inl (cc, cc)
+
+-- the test that none there passes of the slot that is lacking
+unserved_at : (all : List Provider) (r number : ℕ) (ss : List Slot) (slot : ℕ) (stage : Stage) → first_unserved all r number ss ≡ Some (lack.Slot slot stage)
+    → unreached all r (slice_index_or ss (slot - number) no_slot) ≡ Some stage
+unfolding is_slot
+unserved_at all r number [] slot stage h = absurd (false≢true (ap is_slot h))
+unserved_at all r number (s ∷ ss) slot stage h = elim (first_or_later number slot stage (unreached all r s) (first_unserved all r (number + 1) ss) h) [
+  | inl here ↦ let first : slot - number ≡ 0 = omega (arith, here.0) in rw first here.1
+  | inr later ↦
+      let next : slot - number ≡ suc (slot - (number + 1)) = omega (arith, (first_numbers all r (number + 1) ss slot stage later).0) in
+      rw next (unserved_at all r (number + 1) ss slot stage later)
+]
+
+pub lacked_at : (all : List Provider) (asked : Asked) (r slot : ℕ) (stage : Stage) → lack_at all asked r ≡ Some (lack.Slot slot stage) → unreached all r (slot_at asked (slot - 1)) ≡ Some stage
+lacked_at all asked r slot stage h =
+    unserved_at all r 1 (slots_of asked) slot stage (of_slot (takes_root all asked r) (first_unserved all r 1 (slots_of asked)) (holds_required all asked r) (fits_at all asked r) slot stage h)
+
+slot_or : (number : ℕ) (found : Option Stage) (rest : Option Lack) (lacks : Lack) → (rest ≡ Some lacks → is_slot (Some lacks) ≡ true)
+    → option_or (option_map (λ failed. lack.Slot number failed) found) rest ≡ Some lacks → is_slot (Some lacks) ≡ true
+unfolding is_slot
+slot_or number None rest lacks later h = later h
+slot_or number (Some failed) rest lacks later h = sym (ap is_slot h)
+
+only_slots : (all : List Provider) (r number : ℕ) (ss : List Slot) (lacks : Lack) → first_unserved all r number ss ≡ Some lacks → is_slot (Some lacks) ≡ true
+only_slots all r number [] lacks h = absurd (nothing h)
+  where
+    nothing : {X : Type 0} {x : X} → None ≡ Some x → ⊥
+    nothing h = cc
+only_slots all r number (s ∷ ss) lacks h =
+    slot_or number (unreached all r s) (first_unserved all r (number + 1) ss) lacks (only_slots all r (number + 1) ss lacks) h
+
+of_root : (takes : Bool) (found : Option Lack) (holds fits : Bool) → ((lacks : Lack) → found ≡ Some lacks → is_slot (Some lacks) ≡ true)
+    → first_lack takes found holds fits ≡ Some lack.RootTraits → takes ≡ false
+unfolding is_slot
+of_root false found holds fits slots h = refl
+of_root true (Some lacks) holds fits slots h = absurd (false≢true (sym (ap is_slot h) ∙ slots lacks refl))
+of_root true None false fits slots h = let clash : Some lack.RequiredTraits ≡ Some lack.RootTraits = h in cc
+of_root true None true false slots h = let clash : Some lack.Together ≡ Some lack.RootTraits = h in cc
+of_root true None true true slots h = let clash : None ≡ Some lack.RootTraits = h in cc
+
+of_required : (takes : Bool) (found : Option Lack) (holds fits : Bool) → ((lacks : Lack) → found ≡ Some lacks → is_slot (Some lacks) ≡ true)
+    → first_lack takes found holds fits ≡ Some lack.RequiredTraits → holds ≡ false
+unfolding is_slot
+of_required false found holds fits slots h = let clash : Some lack.RootTraits ≡ Some lack.RequiredTraits = h in cc
+of_required true (Some lacks) holds fits slots h = absurd (false≢true (sym (ap is_slot h) ∙ slots lacks refl))
+of_required true None false fits slots h = refl
+of_required true None true false slots h = let clash : Some lack.Together ≡ Some lack.RequiredTraits = h in cc
+of_required true None true true slots h = let clash : None ≡ Some lack.RequiredTraits = h in cc
+
+pub untaken_at : (all : List Provider) (asked : Asked) (r : ℕ) → lack_at all asked r ≡ Some lack.RootTraits → takes_root all asked r ≡ false
+untaken_at all asked r h =
+    of_root (takes_root all asked r) (first_unserved all r 1 (slots_of asked)) (holds_required all asked r) (fits_at all asked r) (only_slots all r 1 (slots_of asked)) h
+
+pub unheld_at_root : (all : List Provider) (asked : Asked) (r : ℕ) → lack_at all asked r ≡ Some lack.RequiredTraits → holds_required all asked r ≡ false
+unheld_at_root all asked r h =
+    of_required (takes_root all asked r) (first_unserved all r 1 (slots_of asked)) (holds_required all asked r) (fits_at all asked r) (only_slots all r 1 (slots_of asked)) h
 
 -- slots are numbered from 1
 pub lack_numbers : (all : List Provider) (asked : Asked) (r slot : ℕ) (stage : Stage) → lack_at all asked r ≡ Some (lack.Slot slot stage) → (0 < slot) × (slot ≤ length (slots_of asked))

@@ -1,10 +1,10 @@
 -- How far the providers of a root come in a slot, and the first slot that none of them serves.
 use Rattle.std.proofs.Common.{inl, inr, ◌≡◌, ◌∙◌, ◌<◌, ℕ, zero, suc, ◌+◌, Bool, true, false, ◌&&◌, ◌||◌, ◌==◌, List, [], ◌∷◌, ◌++◌, length, map, nat_lt, get_or, replicate, slice_index, slice_index_or, slice_set, Option, Some, None, refl, sym, subst, ap, ap₂, arith, add-one}
-use Rattle.std.specs.Prelude.{cond, take}
-use Rattle.std.specs.List.{filter, list_any, range_with_len}
-use Rattle.std.specs.Option.{option_map, option_or}
-use Rattle.std.proofs.lemmas.Bool.{cases_Bool, cases_eq, cases_lt}
-use Rattle.std.proofs.lemmas.List.{get_or-replicate, get_or-set_other, get_or-set_same, get_or_past, length-replicate}
+use Rattle.std.specs.Prelude.{cond, drop, take}
+use Rattle.std.specs.List.{filter, list_all, list_any, range_with_len}
+use Rattle.std.specs.Option.{is_some, option_map, option_or}
+use Rattle.std.proofs.lemmas.Bool.{and_parts, cases_Bool, cases_eq, cases_lt, false≢true}
+use Rattle.std.proofs.lemmas.List.{get_or-replicate, get_or-set_other, get_or-set_same, get_or_past, length-replicate, take-append-drop}
 use Rattle.std.proofs.lemmas.Bool.Decides.{nat_tests}
 use Rattle.std.proofs.lemmas.List.FromFn.{fill_by_all, get_or-map-range_with_len, length-map-range_with_len}
 use Rattle.ac_base.proofs.Sorted.SearchFacts.{no_any}
@@ -19,6 +19,7 @@ use Rattle.ac_prune.specs.Fitting.{fits_at}
 use Rattle.ac_find.specs.Lacking.{first_lack, first_unserved, lack_at, unreached}
 use Rattle.ac_find.specs.Shown.Furthest.{AreRanked, AreSmall}
 use Rattle.ac_find.specs.Shown.Lacking.{AreNoted, is_listed, lack_behind, stage_behind, tests_in, unserved}
+use Rattle.ac_find.specs.declared.lacks.Stage.{Stage}
 use Rattle.ac_find.specs.declared.lacks.Lack.{Lack}
 use Rattle.ac_find.specs.declared.lacks.Lack.TheVariants as lack
 use Rattle.ac_find.proofs.RankLemmas.{tests_reached}
@@ -191,3 +192,26 @@ at_place f n xs r x d low is here = here ∙ (ap (λ ys. slice_index_or ys r d) 
 pub lack_found : (all : List Provider) (asked : Asked) (r : ℕ) (takes : Bool) (slot : Option Lack) (holds fits : Bool) → takes ≡ takes_root all asked r → slot ≡ first_unserved all r 1 (slots_of asked)
     → holds ≡ holds_required all asked r → fits ≡ fits_at all asked r → first_lack takes slot holds fits ≡ lack_at all asked r
 lack_found all asked r takes slot holds fits a b c d = rw (a, b, c, d) refl
+
+-- ---- Where something is lacking at each root, it stays
+
+still_first : (all : List Provider) (r number : ℕ) (xs ys : List Slot) → is_some (first_unserved all r number xs) ≡ true → first_unserved all r number (xs ++ ys) ≡ first_unserved all r number xs
+still_first all r number [] ys h = absurd (false≢true h)
+still_first all r number (slot ∷ xs) ys h = first_stays (unreached all r slot) (first_unserved all r (number + 1) xs) (first_unserved all r (number + 1) (xs ++ ys)) number (still_first all r (number + 1) xs ys) h
+  where
+    first_stays : (here : Option Stage) (some more : Option Lack) (number : ℕ) → (is_some some ≡ true → more ≡ some)
+        → is_some (option_or (option_map (λ stage. lack.Slot number stage) here) some) ≡ true
+        → option_or (option_map (λ stage. lack.Slot number stage) here) more ≡ option_or (option_map (λ stage. lack.Slot number stage) here) some
+    first_stays (Some stage) some more number same h = refl
+    first_stays None some more number same h = same h
+
+all_stay : (f g : ℕ → Option Lack) (rs : List ℕ) → ((r : ℕ) → is_some (f r) ≡ true → g r ≡ f r) → list_all is_some (map f rs) ≡ true → map f rs ≡ map g rs
+all_stay f g [] same h = refl
+all_stay f g (r ∷ rs) same h =
+    let both = and_parts (is_some (f r)) (list_all is_some (map f rs)) h in
+    ap₂ (λ l ls. l ∷ ls) (sym (same r both.0)) (all_stay f g rs same both.1)
+
+pub all_noted : (all : List Provider) (ss : List Slot) (s : ℕ) → list_all is_some (unserved all (take s ss)) ≡ true → unserved all (take s ss) ≡ unserved all ss
+all_noted all ss s h =
+    all_stay (λ r. first_unserved all r 1 (take s ss)) (λ r. first_unserved all r 1 ss) (range_with_len 0 (length all))
+    (λ r some. ap (first_unserved all r 1) (sym (take-append-drop s ss)) ∙ still_first all r 1 (take s ss) (drop s ss) some) h

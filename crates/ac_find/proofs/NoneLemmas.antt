@@ -75,7 +75,7 @@ any_held all asked r has (s ∷ ss) (p ∷ t) hosts serve among h = elim (either
 ]
 
 -- a list has each of its items
-each_own : {X : Type 0} (xs : List X) → Each (λ x. Among xs x) xs
+pub each_own : {X : Type 0} (xs : List X) → Each (λ x. Among xs x) xs
 each_own [] = tt
 each_own (x ∷ xs) = (inl refl, each_weaker (λ y. Among xs y) (λ y. Among (x ∷ xs) y) xs (λ y m. inr m) (each_own xs))
 

@@ -11,13 +11,14 @@ use Rattle.ac_rules.proofs.Elements.{each_weaker}
 use Rattle.ac_prune.specs.QuerySearch.{has_room_alone}
 use Rattle.ac_find.specs.Explained.{has_inventories, in_slot, meets_units, meets_traits, meets_aggregates, meets_tree, meets_room}
 use Rattle.ac_find.specs.Furthest.{count_met, short_left, tests_before}
-use Rattle.ac_find.specs.Lacking.{if_failed}
+use Rattle.ac_find.specs.Lacking.{first_failed, if_failed}
+use Rattle.ac_find.specs.declared.lacks.Stage.{Stage}
 use Rattle.ac_prune.specs.Ahead.{hosts_of}
 use Rattle.ac_prune.proofs.Roots.RootLemmas.{hosts_low}
 use Rattle.ac_find.specs.Shown.Furthest.{AreSmall, rank, ranked}
 use Rattle.ac_find.specs.Shown.Lacking.{passes, tests_in}
 use Rattle.ac_find.specs.declared.lacks.Stage.TheVariants.{Inventory, Units, Traits, Aggregates, Tree, Room}
-use Rattle.std.specs.Prelude.{None}
+use Rattle.std.specs.Prelude.{None, Some, Option, ◌≤◌}
 use Rattle.ac_find.proofs.ExplainedLemmas.{units_have}
 
 -- ---- How many tests are passed
@@ -57,6 +58,31 @@ unfolding AreTold met_of
 met_passes all x k few =
     let told = are_told (has_inventories all x) (units_fit all x) (traits_fit all x) (aggregates_fit all x) (tree_fits all x) (has_room_alone all x) (units_have all x) in
     pass_each all x (count_met all x) told.0 told.1 told.2 told.3 told.4 told.5 k few
+
+tests_few : (o : Option Stage) → tests_before o ≤ 6
+tests_few None = omega arith
+tests_few (Some Inventory) = omega arith
+tests_few (Some Units) = omega arith
+tests_few (Some Traits) = omega arith
+tests_few (Some Aggregates) = omega arith
+tests_few (Some Tree) = omega arith
+tests_few (Some Room) = omega arith
+
+-- numbers up to 6 that are less than the same ones are the same
+same_number : (m n : ℕ) → m ≤ 6 → n ≤ 6 → ((k : ℕ) → k < 6 → nat_lt k m ≡ nat_lt k n) → m ≡ n
+same_number m n few less same = elim (cases_lt m n) [
+  | inl low ↦ absurd (false≢true (sym (le-ltb m m (omega arith)) ∙ (same m (omega (arith, low, less)) ∙ lt-ltb m n low)))
+  | inr high ↦ elim (cases_lt n m) [
+    | inl low ↦ absurd (false≢true (sym (le-ltb n n (omega arith)) ∙ (sym (same n (omega (arith, low, few))) ∙ lt-ltb n m low)))
+    | inr least ↦ omega (arith, high, least)
+  ]
+]
+
+-- what tells each test is their number
+pub met_value : (all : List Provider) (x : Placed) (met : ℕ) → met ≤ 6 → nat_lt 0 met ≡ has_inventories all x → nat_lt 1 met ≡ meets_units all x → nat_lt 2 met ≡ meets_traits all x
+    → nat_lt 3 met ≡ meets_aggregates all x → nat_lt 4 met ≡ meets_tree all x → nat_lt 5 met ≡ meets_room all x → met ≡ count_met all x
+met_value all x met few a b c d e f =
+    same_number met (count_met all x) few (tests_few (first_failed all x)) (λ k low. pass_each all x met a b c d e f k low ∙ sym (met_passes all x k low))
 
 -- ---- The number
 

@@ -3,7 +3,7 @@ use Rattle.std.proofs.Common.{inl, inr, ◌⊎◌, ◌≡◌, ◌≢◌, ◌∙�
 use Rattle.std.specs.Prelude.{codes, find}
 use Rattle.std.specs.List.{list_all, list_any, range_with_len, AllByRecursion as Each}
 use Rattle.std.specs.Option.{is_none, is_some, option_map_or}
-use Rattle.std.proofs.lemmas.Bool.{and_parts, and_from, and_cases, cases_Bool, false_from_ne_true, false≢true, not-false, not-true, not_from_false}
+use Rattle.std.proofs.lemmas.Bool.{and_parts, and_from, and_cases, cases_Bool, false_from_ne_true, false≢true, not-false, not-true, not_from_false, or_parts}
 use Rattle.ac_base.specs.Quantities.{InventoryNumbers}
 use Rattle.ac_query.specs.Asked.{Asked, Group, Slot, slots_of}
 use Rattle.ac_cloud.specs.World.{Provider, has_trait, id_at, is_root, provider_at, used_of}
@@ -24,7 +24,7 @@ use Rattle.ac_find.proofs.NoneLemmas.{any_among}
 -- ---- What is found
 
 -- the first that passes a test, or none does
-found : {X : Type 0} (p : X → Bool) (xs : List X) → ((x : X) × (find p xs ≡ Some x) × (p x ≡ true)) ⊎ Each (λ x. p x ≡ false) xs
+pub found : {X : Type 0} (p : X → Bool) (xs : List X) → ((x : X) × (find p xs ≡ Some x) × (p x ≡ true)) ⊎ Each (λ x. p x ≡ false) xs
 found {X} p [] = inr tt
 found {X} p (x ∷ xs) = elim (cases_Bool (p x)) [
   | inl e ↦ inl (x, rw e refl, e)
@@ -36,7 +36,7 @@ pass_all f [] h = refl
 pass_all f (x ∷ xs) h = and_from (f x) (list_all f xs) (not-false (f x) h.0) (pass_all f xs h.1)
 
 -- where not all pass, the first that doesn't
-missed : {X : Type 0} (f : X → Bool) (xs : List X) → list_all f xs ≡ false → (x : X) × (find (λ y. not (f y)) xs ≡ Some x) × (not (f x) ≡ true)
+pub missed : {X : Type 0} (f : X → Bool) (xs : List X) → list_all f xs ≡ false → (x : X) × (find (λ y. not (f y)) xs ≡ Some x) × (not (f x) ≡ true)
 missed f xs h = elim (found (λ y. not (f y)) xs) [ inl here ↦ here | inr none ↦ absurd (false≢true (sym h ∙ pass_all f xs none)) ]
 
 -- where a test is passed by none, each passes its opposite
@@ -51,7 +51,7 @@ pub some_same : {X : Type 0} (y x : X) → Some y ≡ Some x → y ≡ x
 some_same y x h = cc
 
 -- what is found passes, and is among the list
-finds : {X : Type 0} (p : X → Bool) (xs : List X) (x : X) → find p xs ≡ Some x → (p x ≡ true) × Among xs x
+pub finds : {X : Type 0} (p : X → Bool) (xs : List X) (x : X) → find p xs ≡ Some x → (p x ≡ true) × Among xs x
 finds {X} p [] x h = absurd (none_some x h)
 finds {X} p (y ∷ xs) x h = elim (cases_Bool (p y)) [
   | inl e ↦ let same = some_same y x (rw e at h) in (subst (λ (z : X). p z ≡ true) same e, inl same)
@@ -69,24 +69,24 @@ each_below P n i h low = subst P (omega arith) (each_at P 0 n i h low)
 
 -- ---- Texts that aren't empty
 
-behind : (xs ys : List ℕ) → ys ≢ [] → xs ++ ys ≢ []
+pub behind : (xs ys : List ℕ) → ys ≢ [] → xs ++ ys ≢ []
 behind [] ys h = h
 behind (x ∷ xs) ys h = λ e. cc
 
-map_told : {X : Type 0} (f : X → List ℕ) (o : Option X) (rest : List ℕ) → ((x : X) → f x ≢ []) → rest ≢ [] → option_map_or f o rest ≢ []
+pub map_told : {X : Type 0} (f : X → List ℕ) (o : Option X) (rest : List ℕ) → ((x : X) → f x ≢ []) → rest ≢ [] → option_map_or f o rest ≢ []
 map_told f None rest each h = h
 map_told f (Some x) rest each h = each x
 
 none_told : (class : List ℕ) → none_text class ≢ []
 none_told class = behind class (codes ": no inventory") (λ e. cc)
 
-missing_told : (name : List ℕ) → missing_text name ≢ []
+pub missing_told : (name : List ℕ) → missing_text name ≢ []
 missing_told name = behind name (codes " missing") (λ e. cc)
 
 forbidden_told : (name : List ℕ) → forbidden_text name ≢ []
 forbidden_told name = behind name (codes " forbidden") (λ e. cc)
 
-lists_told : (names : List (List ℕ)) → none_of_text names ≢ []
+pub lists_told : (names : List (List ℕ)) → none_of_text names ≢ []
 unfolding none_of_text
 lists_told names = λ e. cc
 
@@ -172,12 +172,15 @@ pub misfit_is_told : MisfitIsTold
 misfit_is_told all asked list r s own h = misfit_there all (assigned asked list) (in_list asked list s) r own (unkept all asked list r s h)
 
 -- what holds of each place holds of all that is placed
-all_placed : (f : Placed → Bool) (ss : List Slot) (list : List ℕ)
-    → ((i : ℕ) → i < length list → f (record { slot = slice_index_or ss i no_slot; provider = slice_index list i }) ≡ true) → list_all f (placed ss list) ≡ true
-all_placed f [] list h = refl
-all_placed f (s ∷ ss) [] h = refl
-all_placed f (s ∷ ss) (p ∷ list) h =
-    and_from (f (record { slot = s; provider = p })) (list_all f (placed ss list)) (h zero (omega arith)) (all_placed f ss list (λ i low. h (suc i) (omega (arith, low))))
+pub each_placed : (P : Placed → Type 0) (ss : List Slot) (list : List ℕ)
+    → ((i : ℕ) → i < length ss → i < length list → P (record { slot = slice_index_or ss i no_slot; provider = slice_index list i })) → Each P (placed ss list)
+each_placed P [] list h = tt
+each_placed P (s ∷ ss) [] h = tt
+each_placed P (s ∷ ss) (p ∷ list) h = (h zero (omega arith) (omega arith), each_placed P ss list (λ i low less. h (suc i) (omega (arith, low)) (omega (arith, less))))
+
+pub pass_each : {X : Type 0} (f : X → Bool) (xs : List X) → Each (λ x. f x ≡ true) xs → list_all f xs ≡ true
+pass_each f [] h = refl
+pass_each f (x ∷ xs) h = and_from (f x) (list_all f xs) h.0 (pass_each f xs h.1)
 
 -- where not every slot keeps a rule, the first that doesn't
 misfit : (all : List Provider) (asked : Asked) (list : List ℕ) (r : Rule) → list_all (λ x. keeps all (assigned asked list) r x) (assigned asked list) ≡ false
@@ -186,8 +189,8 @@ misfit all asked list r h =
     let test = λ (x : Placed). keeps all (assigned asked list) r x in
     elim (found (λ s. not (test (in_list asked list s))) (range_with_len 0 (length list))) [
       | inl it ↦ (it.0, it.1)
-      | inr none ↦ absurd (false≢true (sym h ∙ all_placed test (slots_of asked) list
-          (λ i low. not-false (test (in_list asked list i)) (each_below (λ s. not (test (in_list asked list s)) ≡ false) (length list) i none low))))
+      | inr none ↦ absurd (false≢true (sym h ∙ pass_each test (assigned asked list) (each_placed (λ x. test x ≡ true) (slots_of asked) list
+          (λ i few low. not-false (test (in_list asked list i)) (each_below (λ s. not (test (in_list asked list s)) ≡ false) (length list) i none low)))))
     ]
 
 slot_said : (all : List Provider) (asked : Asked) (list : List ℕ) (r : Rule) → list_all (λ x. keeps all (assigned asked list) r x) (assigned asked list) ≡ false → slot_detail all asked list r ≢ []
@@ -222,16 +225,11 @@ unbrought_there all xs g h = elim (and_cases (list_all (λ name. is_brought all 
       (let it = missed (λ names. is_one_brought all xs names) g.any_of lists in rw it.1 (lists_told it.0))
 ]
 
-neither : (a b : Bool) → not (a || b) ≡ true → b ≡ false
-neither true b h = absurd (false≢true h)
-neither false true h = absurd (false≢true h)
-neither false false h = refl
-
 collective_said : (all : List Provider) (asked : Asked) (xs : List Placed) → collective all asked xs ≡ false → collective_detail all asked xs ≢ []
 unfolding collective
 collective_said all asked xs h =
     let it = missed (λ (g : Option (List ℕ) × Group). is_some g.0 || are_brought all xs g.1) asked.groups h in
-    rw it.1 (unbrought_there all xs it.0.1 (neither (is_some it.0.0) _ it.2))
+    rw it.1 (unbrought_there all xs it.0.1 (or_parts (is_some it.0.0) _ (not-true _ it.2)).1)
 
 -- ---- Isolate
 
@@ -241,7 +239,8 @@ apart_placed : (ss : List Slot) (list : List ℕ)
 apart_placed [] list h = refl
 apart_placed (x ∷ ss) [] h = refl
 apart_placed (x ∷ ss) (p ∷ list) h = and_from _ _
-    (all_placed (λ y. are_apart (record { slot = x; provider = p }) y) ss list (λ i low. h zero (suc i) (omega arith) (omega (arith, low))))
+    (pass_each (λ y. are_apart (record { slot = x; provider = p }) y) (placed ss list)
+    (each_placed (λ y. are_apart (record { slot = x; provider = p }) y ≡ true) ss list (λ i few low. h zero (suc i) (omega arith) (omega (arith, low)))))
     (apart_placed ss list (λ s t order low. h (suc s) (suc t) (omega (arith, order)) (omega (arith, low))))
 
 no_rival : (asked : Asked) (list : List ℕ) (s t : ℕ) → s < t → t < length list → is_some (first_rival asked list s) ≡ false → are_apart (in_list asked list s) (in_list asked list t) ≡ true
@@ -259,15 +258,11 @@ unfolding pair_text
 rival_there all asked list s None h = absurd (false≢true h)
 rival_there all asked list s (Some t) h = λ e. cc
 
-or_parts : (a b : Bool) → (a || b) ≡ false → b ≡ false
-or_parts true b h = absurd (false≢true (sym h))
-or_parts false b h = h
-
 isolate_said : (all : List Provider) (asked : Asked) (list : List ℕ) → isolate asked (assigned asked list) ≡ false → isolate_detail all asked list ≢ []
 unfolding isolate
 isolate_said all asked list h = elim (found (λ s. is_some (first_rival asked list s)) (range_with_len 0 (length list))) [
   | inl it ↦ rw it.1 (rival_there all asked list it.0 (first_rival asked list it.0) it.2)
-  | inr none ↦ absurd (false≢true (sym (or_parts _ _ h) ∙ apart_placed (slots_of asked) list
+  | inr none ↦ absurd (false≢true (sym (or_parts _ _ h).1 ∙ apart_placed (slots_of asked) list
       (λ s t order low. no_rival asked list s t order low (each_below (λ s. is_some (first_rival asked list s) ≡ false) (length list) s none (omega (arith, order, low))))))
 ]
 
@@ -360,7 +355,7 @@ root_had p asked h = elim (found (λ name. has_trait p name) asked.root_forbidde
   | inr none ↦ absurd (false≢true (sym h ∙ pass_none (λ name. has_trait p name) asked.root_forbidden none))
 ]
 
-root_there : (all : List Provider) (asked : Asked) (root : ℕ) → is_root all (id_at all root) ≡ true → takes_root all asked root ≡ false → root_detail (provider_at all root) asked ≢ []
+pub root_there : (all : List Provider) (asked : Asked) (root : ℕ) → is_root all (id_at all root) ≡ true → takes_root all asked root ≡ false → root_detail (provider_at all root) asked ≢ []
 unfolding takes_root
 root_there all asked root is h =
     let p = provider_at all root in

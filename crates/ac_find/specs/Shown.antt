@@ -5,3 +5,4 @@ pub mod Explained
 pub mod Lacking
 pub mod Furthest
 pub mod Unheld
+pub mod Met

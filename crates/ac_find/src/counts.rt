@@ -8,6 +8,7 @@ ghost use Rattle.ac_cloud.specs.Cloud.CloudWorld.{providers_of};
 ghost use Rattle.ac_query.specs.Asked.{slots_of};
 ghost use Rattle.ac_query.specs.Shown.Queries.{asked_of};
 ghost use Rattle.ac_rules.specs.Placed.{slot_at};
+ghost use Rattle.ac_find.specs.Furthest.{count_met};
 ghost use Rattle.ac_find.specs.Explained.{count_of, has_inventories, meets_units, meets_traits, meets_aggregates, meets_tree, meets_room, slot_counts, tree_counts};
 ghost use Rattle.ac_prune.specs.QuerySearch.{has_room_alone};
 ghost use Rattle.ac_rules.specs.Shown.Assignments.{placed_of};
@@ -15,8 +16,10 @@ ghost use Rattle.ac_find.specs.Shown.Explained.{marked, served, served_roots, sl
 
 mod apart;
 mod classes;
+pub(crate) mod met;
 pub(crate) mod required;
 
+use self::met::Met;
 use crate::inventories::has_inventories;
 use ac_base::NoMemory;
 use ac_cloud::Cloud;
@@ -108,20 +111,28 @@ pub(crate) fn count_met(placed: &Placed) -> u32
     6
 }
 
-/// How many providers meet what a slot asks. It takes no memory.
+// The same, as it is defined.
+#[tactic(auto, using(crate::proofs::RankLemmas::met_value))]
+fn tests_met(placed: &Placed) -> u32
+    ensures { result ≡ count_met (providers_of placed.now.cloud.now) (placed_of placed.now) }
+{
+    count_met(placed)
+}
+
+// How many providers meet what a slot asks.
 #[tactic(auto, using(crate::proofs::ExplainedLemmas::count_more, crate::proofs::ExplainedLemmas::count_few))]
-pub fn slot_counts(cloud: &Cloud, query: &Query, s: usize) -> SlotCounts
-    requires { s < length (slots_of (asked_of query.now)) }
-    ensures { slot_counted result
-        ≡ slot_counts (providers_of cloud.now) (slot_at (asked_of query.now) s) }
+fn slot_counts(found: &Met, s: usize) -> SlotCounts
+    requires { s < length (slots_of (asked_of found.now.query.now)) }
+    ensures { slot_counted result ≡ slot_counts (providers_of found.now.cloud.now)
+        (slot_at (asked_of found.now.query.now) s) }
 {
     let mut units = 0;
     let mut traits = 0;
     let mut aggregates = 0;
     let mut tree = 0;
     let mut room = 0;
-    for ix in 0..cloud.len() {
-        let met = count_met(&Placed::new(cloud, query, s, ix));
+    for ix in 0..found.cloud.len() {
+        let met = found.of(s, ix);
         units += u32::from(met > 1);
         traits += u32::from(met > 2);
         aggregates += u32::from(met > 3);
@@ -153,12 +164,12 @@ pub(crate) fn serves(placed: &Placed) -> bool
 }
 
 // 1 for each provider that meets all that a slot asks, and else 0.
-fn serving(alloc: Global, cloud: &Cloud, query: &Query, s: usize) -> Result<Vec<u64>, NoMemory>
-    requires { s < length (slots_of (asked_of query.now)) }
-    ensures { IfOk result (λ serving.
-        serving.items ≡ served (providers_of cloud.now) (slot_at (asked_of query.now) s)) }
+fn serving(alloc: Global, found: &Met, s: usize) -> Result<Vec<u64>, NoMemory>
+    requires { s < length (slots_of (asked_of found.now.query.now)) }
+    ensures { IfOk result (λ serving. serving.items ≡ served (providers_of found.now.cloud.now)
+        (slot_at (asked_of found.now.query.now) s)) }
 {
-    let serving = (0..cloud.len()).map(|ix| u64::from(serves(&Placed::new(cloud, query, s, ix))));
+    let serving = (0..found.cloud.len()).map(|ix| u64::from(found.of(s, ix) > 5));
     Ok(serving.collect(alloc)?)
 }
 
@@ -181,11 +192,12 @@ fn limit_slots(
         ≡ served_roots (providers_of cloud.now) (asked_of query.now)
         (slots_of (asked_of query.now))) }
 {
+    if !is_some_marked(marks) {
+        return Ok(());
+    }
+    let found = Met::find(alloc, cloud, query)?;
     for s in 0..count_slots(query) {
-        if !is_some_marked(marks) {
-            return Ok(());
-        }
-        let serving = serving(alloc, cloud, query, s)?;
+        let serving = serving(alloc, &found, s)?;
         limit(alloc, cloud, marks, &serving, 1)?;
     }
     Ok(())

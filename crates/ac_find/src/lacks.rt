@@ -1,7 +1,8 @@
 //! What each root lacks of what a query asks: the first of what is asked there that it doesn't have.
 
 ghost use Rattle.std.specs.Prelude.{◌≡◌, ◌<◌, IfOk, length, map};
-ghost use Rattle.std.specs.List.{range_with_len};
+ghost use Rattle.std.specs.List.{list_all, range_with_len};
+ghost use Rattle.std.specs.Option.{is_some};
 ghost use Rattle.ac_cloud.specs.Cloud.CloudWorld.{providers_of};
 ghost use Rattle.ac_query.specs.Asked.{slots_of};
 ghost use Rattle.ac_query.specs.Shown.Queries.{asked_of};
@@ -96,7 +97,14 @@ fn note(lacks: &mut [Option<Lack>], slot: u32, ranks: &[u128])
     }
 }
 
-// What is lacking at each root of the first slot that none of its providers serves by itself.
+// Whether something is lacking at each of them.
+fn are_all_noted(lacks: &[Option<Lack>]) -> bool
+    ensures { result ≡ list_all is_some lacks.now }
+{
+    lacks.iter().all(|lack| lack.is_some())
+}
+
+// What is lacking at each root of the first slot that none of its providers serves by itself. Where something is lacking at each, no further slot is looked at.
 fn lacks_of_slots(
     alloc: Global,
     cloud: &Cloud,
@@ -110,6 +118,9 @@ fn lacks_of_slots(
         lacks.push(None)?;
     }
     for s in 0..count_slots(query) {
+        if are_all_noted(&lacks) {
+            return Ok(lacks);
+        }
         let ranks = rank_roots(alloc, cloud, query, s)?;
         note(&mut lacks, s as u32 + 1, &ranks);
     }

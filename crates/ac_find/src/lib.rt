@@ -19,8 +19,7 @@ mod unheld;
 pub use audit::{Finding, Kind, find_amiss, is_member};
 pub use broken::broken_detail;
 pub use counts::{
-    SlotCounts, SlotTold, TreeCounts, all_slots, first_apart, requires_some, slot_counts,
-    tree_counts,
+    SlotCounts, SlotTold, TreeCounts, all_slots, first_apart, requires_some, tree_counts,
 };
 pub use differences::{Difference, all_differences, applies};
 pub use furthest::{Wanting, find_wanting};

@@ -3,3 +3,4 @@ pub mod SoughtLemmas
 pub mod OpenLemmas
 pub mod CollectiveLemmas
 pub mod GroupLemmas
+pub mod GridLemmas

@@ -3,10 +3,12 @@ pub mod Columns
 pub mod Kinds
 pub mod Mixed
 use Rattle.std.specs.Prelude.{◌≡◌, ℕ, ◌+◌, ◌-◌, ◌*◌, ◌/◌, ◌^◌, ◌<◌, ◌&&◌, if◌then◌else◌, Bool, false, nat_le, min, List, [], ◌∷◌, length, map, get_or, slice_index, slice_index_or}
+use Rattle.std.specs.List.{flat_map, range_with_len}
 use Rattle.std.specs.Global.{Vec}
 use Rattle.ac_cloud.specs.World.{Provider}
 use Rattle.ac_rules.specs.Placed.{slot_at}
-use Rattle.ac_prune.specs.QuerySearch.{choice_of, choices_of}
+use Rattle.ac_query.specs.Asked.{slots_of}
+use Rattle.ac_prune.specs.QuerySearch.{choice_of, choices_of, is_choice}
 use Rattle.ac_prune.specs.Left.{ask_pair, wanted}
 use Rattle.ac_prune.specs.Marks.{times}
 use Rattle.ac_prune.specs.Ahead.{load_in, load_of, hosts_of, AreRoots}
@@ -59,6 +61,13 @@ MayHost ledger may = AreRoots (providers_in ledger) (asked_in ledger) may
 -- the choices of a slot, and of all slots
 abbrev pub choice_in : Ledger → ℕ → List ℕ
 choice_in ledger s = choice_of (providers_in ledger) (asked_in ledger) (slot_at (asked_in ledger) s)
+
+-- for a provider, whether it is a choice of each slot; and the same for all providers, one after another
+abbrev pub row_in : Ledger → ℕ → List Bool
+row_in ledger p = map (λ slot. is_choice (providers_in ledger) (asked_in ledger) slot p) (slots_of (asked_in ledger))
+
+abbrev pub grid_in : Ledger → List Bool
+grid_in ledger = flat_map (row_in ledger) (range_with_len 0 (length (providers_in ledger)))
 
 abbrev pub choices_in : Ledger → List (List ℕ)
 choices_in ledger = choices_of (providers_in ledger) (asked_in ledger)

@@ -22,11 +22,14 @@ pub record AreMet (all : List Provider) (asked : Asked) (s : ℕ) (marks : List 
 unfoldable pub has_room_alone : List Provider → Placed → Bool
 has_room_alone all x = list_all (λ need. holds (provider_at all x.provider) need.0 need.1) x.slot.needs
 
--- the providers that meet a slot's own rules and have room for it alone, in order; none where the empty list isn't open
+-- a provider meets a slot's own rules and has room for it alone, and the empty list is open
+abbrev pub is_choice : List Provider → Asked → Slot → ℕ → Bool
+is_choice all asked slot p =
+    is_open all asked [] && (fits all (record { slot = slot; provider = p }) && has_room_alone all (record { slot = slot; provider = p }))
+
+-- these providers, in order; none where the empty list isn't open
 unfoldable pub choice_of : List Provider → Asked → Slot → List ℕ
-choice_of all asked slot =
-    filter (λ p. is_open all asked [] && (fits all (record { slot = slot; provider = p }) && has_room_alone all (record { slot = slot; provider = p })))
-    (range_with_len 0 (length all))
+choice_of all asked slot = filter (λ p. is_choice all asked slot p) (range_with_len 0 (length all))
 
 abbrev pub choices_of : List Provider → Asked → List (List ℕ)
 choices_of all asked = map (λ slot. choice_of all asked slot) (slots_of asked)

@@ -1,17 +1,17 @@
 //! The providers that each slot may have: those that meet its rules and have room for what it alone asks.
 
-ghost use Rattle.std.specs.Prelude.{◌≡◌, ◌<◌, ◌≤◌, ◌&&◌, IfOk, IfSome, [], true, length, map};
+ghost use Rattle.std.specs.Prelude.{◌≡◌, ◌<◌, ◌≤◌, ◌&&◌, ◌++◌, IfOk, IfSome, OnOk, [], true, length, map};
 ghost use Rattle.std.specs.List.{All, list_all, range_with_len};
 ghost use Rattle.ac_cloud.specs.Cloud.CloudWorld.{providers_of};
 ghost use Rattle.ac_query.specs.Asked.{slots_of};
 ghost use Rattle.ac_query.specs.Shown.Queries.{asked_of};
-ghost use Rattle.ac_rules.specs.Placed.{placed_at, assigned};
+ghost use Rattle.ac_rules.specs.Placed.{placed_at, assigned, slot_at};
 ghost use Rattle.ac_rules.specs.Judge.{is_open};
 ghost use Rattle.ac_prune.specs.Left.Accounts.{providers_in, asked_in, Accounts};
-ghost use Rattle.ac_prune.specs.Loads.{choice_in, choices_in};
+ghost use Rattle.ac_prune.specs.Loads.{choice_in, choices_in, grid_in, row_in};
 ghost use Rattle.ac_rules.specs.Own.{fits};
 ghost use Rattle.ac_rules.specs.Shown.Assignments.{placed_of};
-ghost use Rattle.ac_prune.specs.QuerySearch.{has_room_alone, meets_group, AreMet};
+ghost use Rattle.ac_prune.specs.QuerySearch.{has_room_alone, is_choice, meets_group, AreMet};
 
 use crate::ledger::Ledger;
 use ac_base::NoMemory;
@@ -57,7 +57,6 @@ fn mark_group(alloc: Global, cloud: &Cloud, query: &Query, s: usize) -> Result<V
 }
 
 // The marks of the first slot's group, where it has more slots.
-
 fn mark_first(alloc: Global, cloud: &Cloud, query: &Query) -> Result<Option<Vec<bool>>, NoMemory>
     ensures { IfOk result (λ first. IfSome first (λ marks. AreMet (providers_of cloud.now)
         (asked_of query.now) 0 marks.items)) }
@@ -95,7 +94,7 @@ fn fits(placed: &Placed, met: Option<&[bool]>) -> bool
     ensures { result ≡ fits (providers_of placed.now.cloud.now) (placed_of placed.now) }
 {
     match met {
-        Some(marks) => placed.has_units() && marks[placed.provider as usize],
+        Some(marks) => marks[placed.provider as usize] && placed.has_units(),
         None => placed.fits(),
     }
 }
@@ -116,24 +115,68 @@ fn is_choice(ledger: &Ledger, s: usize, ix: u32, opens: bool, met: Option<&[bool
     opens && fits(&placed, met) && ledger.has_enough(s, ix)
 }
 
-// The providers that meet the rules of a slot alone and have room for it, in order; none where not even the empty list is
-// open.
+// Whether a provider is one of those that each slot may have, behind what stands there already. What one provider has is looked at for all slots at once.
+fn mark_provider(
+    ledger: &Ledger,
+    opens: bool,
+    first: Option<&[bool]>,
+    ix: u32,
+    grid: &mut Vec<bool>,
+) -> Result<(), NoMemory>
+    requires empty { Accounts ledger.now [] }
+    requires opens { opens ≡ is_open (providers_in ledger.now) (asked_in ledger.now) [] }
+    requires first { IfSome first (λ marks. AreMet (providers_in ledger.now)
+        (asked_in ledger.now) 0 marks.now) }
+    requires provider { ix < length (providers_in ledger.now) }
+    ensures { OnOk result (grid.new.items ≡ grid.old.items ++ row_in ledger.now ix) }
+{
+    for s in 0..count_slots(ledger.query) {
+        let met = marks_for(ledger.cloud, ledger.query, first, s);
+        grid.push(is_choice(ledger, s, ix, opens, met))?;
+    }
+    Ok(())
+}
+
+// The same for all providers, one after another.
+fn mark_choices(alloc: Global, ledger: &Ledger) -> Result<Vec<bool>, NoMemory>
+    requires empty { Accounts ledger.now [] }
+    ensures { IfOk result (λ grid. grid.items ≡ grid_in ledger.now) }
+{
+    let opens = is_open(ledger.cloud, ledger.query, &[]);
+    let first = mark_first(alloc, ledger.cloud, ledger.query)?;
+    let first = first.as_deref();
+    let mut grid = Vec::new(alloc);
+    for ix in 0..ledger.cloud.len() {
+        mark_provider(ledger, opens, first, ix, &mut grid)?;
+    }
+    Ok(grid)
+}
+
+// Whether a provider is marked for a slot.
+#[tactic(auto, using(crate::proofs::Search::GridLemmas::marked_at, crate::proofs::Search::GridLemmas::place_within))]
+fn is_marked(ledger: &Ledger, grid: &[bool], s: usize, ix: u32) -> bool
+    requires grid { grid.now ≡ grid_in ledger.now }
+    requires slot { s < length (slots_of (asked_in ledger.now)) }
+    requires provider { ix < length (providers_in ledger.now) }
+    ensures { result ≡ is_choice (providers_in ledger.now) (asked_in ledger.now)
+        (slot_at (asked_in ledger.now) s) ix }
+{
+    grid[ix as usize * count_slots(ledger.query) + s]
+}
+
+// The providers that a slot may have, in order.
 #[tactic(auto, unfolding(crate::specs::QuerySearch::choice_of))]
 fn slot_choices(
     alloc: Global,
     ledger: &Ledger,
+    grid: &[bool],
     s: usize,
-    opens: bool,
-    met: Option<&[bool]>,
 ) -> Result<Vec<u32>, NoMemory>
+    requires grid { grid.now ≡ grid_in ledger.now }
     requires slot { s < length (slots_of (asked_in ledger.now)) }
-    requires empty { Accounts ledger.now [] }
-    requires opens { opens ≡ is_open (providers_in ledger.now) (asked_in ledger.now) [] }
-    requires met { IfSome met (λ marks. AreMet (providers_in ledger.now) (asked_in ledger.now)
-        s marks.now) }
     ensures { IfOk result (λ choices. choices.items ≡ choice_in ledger.now s) }
 {
-    let choices = (0..ledger.cloud.len()).filter(|ix| is_choice(ledger, s, *ix, opens, met));
+    let choices = (0..ledger.cloud.len()).filter(|ix| is_marked(ledger, grid, s, *ix));
     Ok(choices.collect(alloc)?)
 }
 
@@ -163,13 +206,10 @@ pub fn all_choices(alloc: Global, ledger: &Ledger) -> Result<Vec<Vec<u32>>, NoMe
     ensures { IfOk result (λ all. map (λ choices. choices.items) all.items
         ≡ choices_in ledger.now) }
 {
-    let opens = is_open(ledger.cloud, ledger.query, &[]);
-    let first = mark_first(alloc, ledger.cloud, ledger.query)?;
-    let first = first.as_deref();
+    let grid = mark_choices(alloc, ledger)?;
     let mut all = Vec::new(alloc);
     for s in 0..count_slots(ledger.query) {
-        let met = marks_for(ledger.cloud, ledger.query, first, s);
-        all.push(slot_choices(alloc, ledger, s, opens, met)?)?;
+        all.push(slot_choices(alloc, ledger, &grid, s)?)?;
     }
     Ok(all)
 }

@@ -8,3 +8,4 @@ pub mod Assigning
 pub mod NameBytes
 pub mod FoundTexts
 pub mod OneCalled
+pub mod LacksTold

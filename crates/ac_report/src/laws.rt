@@ -1,10 +1,10 @@
-//! What holds of pages, and of what is told of a provider: each function's contract is a law, and no program calls it.
+//! What holds of pages, and of what is told of a provider and of a root: each function's contract is a law, and no program calls it.
 
 ghost use Rattle.std.specs.Prelude.{ℕ, List};
 ghost use Rattle.ac_cloud.specs.Laws.{AreProviders};
 ghost use Rattle.ac_cloud.specs.World.{Provider};
 ghost use Rattle.ac_query.specs.Asked.{Asked};
-ghost use Rattle.ac_report.specs.Laws.{IsInPieces, RequestsDiffer, StageIsTold};
+ghost use Rattle.ac_report.specs.Laws.{IsInPieces, LackIsTold, RequestsDiffer, StageIsTold};
 
 /// The body of any lists is its pieces, joined.
 pub fn body_pieces()
@@ -22,4 +22,9 @@ pub fn requests_differ()
 /// Of the first test of its slot that a provider fails stands of what it does.
 pub fn stage_is_told()
     ensures { StageIsTold }
+{}
+
+/// Of what a root lacks stands what it is, unless its slots don't fit together.
+pub fn lack_is_told()
+    ensures { LackIsTold }
 {}

@@ -65,7 +65,8 @@ fn named_row(
 ) -> Result<ByteRecord, NoMemory>
     requires list { All (λ ix. ix < length (providers_of cloud.now)) list.now }
     requires names { AreCalled (providers_called (providers_of cloud.now)) names.now }
-    ensures { IfOk result (λ row. fields_of row ≡ map (named_text (providers_of cloud.now)) list.now) }
+    ensures { IfOk result (λ row. fields_of row
+        ≡ map (named_text (providers_of cloud.now)) list.now) }
 {
     let mut row = ByteRecord::new(alloc);
     for ix in list {

@@ -172,7 +172,8 @@ pub(crate) fn make_ready(alloc: Global, job: &Job, cloud: &Cloud) -> Result<Read
         AnswerMayStop ready.wanted job.now.tries (providers_of cloud.now)
         → StopsIn (task_of job.now) (world_of cloud.now)) }
     ensures fault { IfErr result (λ told. IsRefusedSo
-        (answer_within (task_of job.now) (world_of cloud.now)) (line_told told) (status_told told)) }
+        (answer_within (task_of job.now) (world_of cloud.now))
+        (line_told told) (status_told told)) }
 {
     match read_wanted(alloc, job, cloud) {
         Ok(wanted) => match note_if_told(alloc, job, cloud, &wanted) {

@@ -289,7 +289,8 @@ pub fn read_wanted(alloc: Global, job: &Job, cloud: &Cloud) -> Result<Wanted, As
         (asked_by job.now.version (pairs_of job.now.query.now))) }
     ensures stops { IfOk result (λ wanted. AnswerMayStop wanted job.now.tries
         (providers_of cloud.now) → SearchMayStop (command_shown job.now.command) job.now.version
-        job.now.tries (providers_of cloud.now) (asked_by job.now.version (pairs_of job.now.query.now))) }
+        job.now.tries (providers_of cloud.now)
+        (asked_by job.now.version (pairs_of job.now.query.now))) }
     ensures fault { IfErr result (ExplainsWanted (task_of job.now) (world_of cloud.now)) }
 {
     match job.command {

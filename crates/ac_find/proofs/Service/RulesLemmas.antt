@@ -2,12 +2,11 @@
 use Rattle.std.proofs.Common.{inl, inr, ◌⊎◌, ◌≡◌, ◌∙◌, ◌<◌, ◌≤◌, ℕ, zero, suc, ◌+◌, Bool, true, false, not, ◌&&◌, ◌||◌, List, [], ◌∷◌, ◌++◌, length, map, Option, None, Some, refl, sym, ap, subst, arith, slice_index, slice_index_or}
 use Rattle.std.specs.List.{list_all, list_any, range_with_len, AllByRecursion as Each}
 use Rattle.std.specs.Option.{is_some}
-use Rattle.std.proofs.lemmas.Bool.{and_parts, and_from, cases_Bool, eq-eqb, false_from_ne_true, false≢true, true_from_ne_false}
+use Rattle.std.proofs.lemmas.Bool.{and_parts, and_from, cases_Bool, eq-eqb, false_from_ne_true, false≢true, or_parts, true_from_ne_false}
 use Rattle.std.proofs.lemmas.Bool.Decides.{nat_tests}
 use Rattle.std.proofs.lemmas.List.Elements.{All-get_or}
 use Rattle.std.proofs.lemmas.List.Folds.{list_any_at}
 use Rattle.std.proofs.lemmas.List.FromFn.{get_or-range_with_len, length-range_with_len}
-use Rattle.std.proofs.lemmas.Slice.Eq.{bytes_eq-Decides}
 use Rattle.ac_base.specs.Quantities.{InventoryNumbers}
 use Rattle.ac_query.specs.Asked.{Asked, Group, Slot, class_slot, is_isolated, slots_from, slots_of}
 use Rattle.ac_cloud.specs.World.{Provider, provider_at, used_of}
@@ -18,11 +17,14 @@ use Rattle.ac_rules.specs.Pages.{candidates}
 use Rattle.ac_rules.specs.Placed.{Placed, assigned, no_slot, placed, placed_at}
 use Rattle.ac_rules.specs.Together.{all_apart, amount_of, anchor, are_apart, collective, has_room, holds, holds_sums, is_set_apart, isolate, subtree, sum_on, sums}
 use Rattle.ac_rules.proofs.EachSlot.FrontLemmas.{all_weaker}
+use Rattle.ac_prune.proofs.Search.OpenLemmas.{amounts_among}
 use Rattle.ac_rules.proofs.Elements.{Among, each_all, each_both, each_weaker, filter_agree}
 use Rattle.ac_rules.proofs.Lists.ListLemmas.{each_all_lists}
 use Rattle.ac_find.specs.Service.Differing.{applies, computes_otherwise, counts_otherwise, gives_otherwise, has_suffix_before, has_two_suffixes, is_bare, is_other, is_suffixed, needs_otherwise, some_gives_otherwise, some_provider, takes_last, total_of}
 use Rattle.ac_find.specs.Service.Rules.{FloatsAgree, IsolateAgrees, all_apart_there, are_apart_there, has_room_there, holds_sums_there, isolate_there, keeps_by, sums_there}
 use Rattle.ac_find.specs.declared.differences.Difference.TheVariants as difference
+use Rattle.ac_find.proofs.NoneLemmas.{each_own}
+use Rattle.ac_find.proofs.ToldLemmas.{each_placed, pass_each}
 
 -- ---- What holds at places
 
@@ -31,29 +33,10 @@ none_below : (f : ℕ → Bool) (n i : ℕ) → list_any f (range_with_len 0 n) 
 none_below f n i h low = false_from_ne_true (f i) (λ on. false≢true (sym h
     ∙ list_any_at f (range_with_len 0 n) i 0 (omega (arith, low, length-range_with_len 0 n)) (ap f (get_or-range_with_len 0 n i 0 low) ∙ subst (λ (k : ℕ). f k ≡ true) (omega arith) on)))
 
--- what holds of each place holds of all that is placed
-each_placed : (P : Placed → Type 0) (ss : List Slot) (list : List ℕ)
-    → ((i : ℕ) → i < length ss → i < length list → P (record { slot = slice_index_or ss i no_slot; provider = slice_index list i })) → Each P (placed ss list)
-each_placed P [] list h = tt
-each_placed P (s ∷ ss) [] h = tt
-each_placed P (s ∷ ss) (p ∷ list) h = (h zero (omega arith) (omega arith), each_placed P ss list (λ i low less. h (suc i) (omega (arith, low)) (omega (arith, less))))
-
-each_own : {X : Type 0} (xs : List X) → Each (λ x. Among xs x) xs
-each_own [] = tt
-each_own (x ∷ xs) = (inl refl, each_weaker (λ y. Among xs y) (λ y. Among (x ∷ xs) y) xs (λ y m. inr m) (each_own xs))
-
 -- tests that agree of each agree of all
 all_agree : {X : Type 0} (f g : X → Bool) (xs : List X) → Each (λ x. f x ≡ g x) xs → list_all f xs ≡ list_all g xs
 all_agree f g [] h = refl
 all_agree f g (x ∷ xs) h = rw (h.0, all_agree f g xs h.1) refl
-
-pass_each : {X : Type 0} (f : X → Bool) (xs : List X) → Each (λ x. f x ≡ true) xs → list_all f xs ≡ true
-pass_each f [] h = refl
-pass_each f (x ∷ xs) h = and_from (f x) (list_all f xs) h.0 (pass_each f xs h.1)
-
-behind_none : (a b : Bool) → (a || b) ≡ false → (a ≡ false) × (b ≡ false)
-behind_none true b h = absurd (false≢true (sym h))
-behind_none false b h = (refl, h)
 
 three_cases : (a b c : Bool) → (a && b && c) ≡ false → (a ≡ false) ⊎ ((b ≡ false) ⊎ (c ≡ false))
 three_cases false b c h = inl refl
@@ -102,9 +85,9 @@ classes_apart i g (need ∷ needs) ss h = (refl, classes_apart i g needs ss h)
 asks_apart : (i : ℕ) (gs : List (Option (List ℕ) × Group)) → list_any (λ g. is_bare g.1) gs ≡ false → Each AsksApart (slots_from i gs)
 unfolding is_set_apart
 asks_apart i [] h = tt
-asks_apart i ((None, g) ∷ gs) h = classes_apart i g g.needs (slots_from (i + 1) gs) (asks_apart (i + 1) gs (behind_none (is_bare g) (list_any (λ g. is_bare g.1) gs) h).1)
+asks_apart i ((None, g) ∷ gs) h = classes_apart i g g.needs (slots_from (i + 1) gs) (asks_apart (i + 1) gs (or_parts (is_bare g) (list_any (λ g. is_bare g.1) gs) h).1)
 asks_apart i ((Some s, g) ∷ gs) h =
-    let both = behind_none (is_bare g) (list_any (λ g. is_bare g.1) gs) h in
+    let both = or_parts (is_bare g) (list_any (λ g. is_bare g.1) gs) h in
     (ap not both.0, asks_apart (i + 1) gs both.1)
 
 slots_apart : (ss : List Slot) (list : List ℕ) → Each AsksApart ss → Each (λ (x : Placed). AsksApart x.slot) (placed ss list)
@@ -176,13 +159,6 @@ isolate_agrees all asked h =
 
 -- ---- Capacities
 
--- each amount is among what all of them ask of its class
-amounts_among : (needs : List (List ℕ × ℕ)) → Each (λ need. need.1 ≤ amount_of needs need.0) needs
-amounts_among [] = tt
-amounts_among (n ∷ needs) =
-    let same = (bytes_eq-Decides n.0 n.0).1 refl in
-    (rw same (omega arith), each_weaker (λ need. need.1 ≤ amount_of needs need.0) _ needs (λ need less. omega (arith, less)) (amounts_among needs))
-
 sum_among : (xs : List Placed) (x : Placed) (c : List ℕ) → Among xs x → amount_of x.slot.needs c ≤ sum_on xs x.provider c
 sum_among [] x c here = absurd here
 sum_among (y ∷ xs) x c (inl is) = let same = eq-eqb x.provider x.provider refl in subst (λ (z : Placed). amount_of x.slot.needs c ≤ sum_on (z ∷ xs) x.provider c) (sym is) (rw same (omega arith))
@@ -198,7 +174,7 @@ room_agrees : (mariadb : Bool) (i : Option InventoryNumbers) (used amount sum to
     → has_room_there mariadb i used amount sum ≡ has_room i used sum
 room_agrees mariadb None used amount sum total h less all = refl
 room_agrees mariadb (Some i) used amount sum total h less all =
-    let both = behind_none (is_other i) (takes_last i used amount total) h in
+    let both = or_parts (is_other i) (takes_last i used amount total) h in
     grind (arith, nat_tests, both.0, both.1)
 
 -- what is asked of a slot's provider isn't counted otherwise
@@ -223,7 +199,7 @@ needs_agree : (mariadb : Bool) (all : List Provider) (asked : Asked) (xs : List 
 needs_agree mariadb all asked xs x [] none less = refl
 needs_agree mariadb all asked xs x (need ∷ needs) none less =
     let p = provider_at all x.provider in
-    let both = behind_none (needs_otherwise all asked x.provider need) (list_any (needs_otherwise all asked x.provider) needs) none in
+    let both = or_parts (needs_otherwise all asked x.provider need) (list_any (needs_otherwise all asked x.provider) needs) none in
     rw (
       room_agrees mariadb (inventory_of p need.0) (used_of p need.0) need.1 (sum_on xs x.provider need.0) (total_of (slots_of asked) need.0) both.0 less.0.0 less.0.1,
       needs_agree mariadb all asked xs x needs both.1 less.1,
@@ -251,6 +227,6 @@ unfolding candidates applies computes_otherwise
 floats_agree all asked mariadb h =
     filter_agree _ _ (all_lists (length all) (length (slots_of asked))) (each_weaker (IsListBelow (length all) (length (slots_of asked))) _ (all_lists (length all) (length (slots_of asked))) (λ t list.
     let xs = assigned asked t in
-    let counted = are_counted all asked t (behind_none _ _ h).0 list in
+    let counted = are_counted all asked t (or_parts _ _ h).0 list in
     if_both (list_all (λ x. fits all x) xs) (collective all asked xs) (sums_there mariadb all xs) (sums all xs) (isolate asked xs && (subtree all asked xs && anchor all asked xs))
     (sums_agree mariadb all asked xs counted) ∙ as_judged all asked t) (each_all_lists (length all) (length (slots_of asked))))

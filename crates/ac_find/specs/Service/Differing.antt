@@ -279,6 +279,10 @@ needs_otherwise all asked p need =
 abbrev pub gives_otherwise : List Provider → Asked → Placed → Bool
 gives_otherwise all asked x = list_any (needs_otherwise all asked x.provider) x.slot.needs && fits all x
 
+-- it is such a one for some slot
+unfoldable pub gives_some_otherwise : List Provider → Asked → ℕ → Bool
+gives_some_otherwise all asked p = list_any (λ s. gives_otherwise all asked (placed_at asked s p)) (slot_places asked)
+
 -- such a provider is there for some slot
 abbrev pub some_gives_otherwise : List Provider → Asked → Bool
 some_gives_otherwise all asked = list_any (λ s. some_provider all asked s (gives_otherwise all asked)) (slot_places asked)

@@ -7,6 +7,7 @@ ghost use Rattle.ac_query.specs.Shown.Queries.{asked_of};
 ghost use Rattle.ac_find.specs.Apart.{AreSlots, apart_from, first_apart, meet, serves_slot};
 ghost use Rattle.ac_find.specs.Shown.Apart.{AreServed, have_common};
 
+use super::met::Met;
 use super::serving;
 use ac_base::NoMemory;
 use ac_cloud::Cloud;
@@ -68,20 +69,15 @@ impl<'a> Served<'a> {
 }
 
 // Marks the roots that the query takes and that have a provider for a slot.
-fn roots_serving(
-    alloc: Global,
-    cloud: &Cloud,
-    query: &Query,
-    s: usize,
-) -> Result<Vec<bool>, NoMemory>
-    requires { s < length (slots_of (asked_of query.now)) }
-    ensures { IfOk result (λ marks.
-        marks.items ≡ map (serves_slot (providers_of cloud.now) (asked_of query.now) s)
-        (range_with_len 0 (length (providers_of cloud.now)))) }
+fn roots_serving(alloc: Global, found: &Met, s: usize) -> Result<Vec<bool>, NoMemory>
+    requires { s < length (slots_of (asked_of found.now.query.now)) }
+    ensures { IfOk result (λ marks. marks.items
+        ≡ map (serves_slot (providers_of found.now.cloud.now) (asked_of found.now.query.now) s)
+        (range_with_len 0 (length (providers_of found.now.cloud.now)))) }
 {
-    let mut marks = taken_roots(alloc, cloud, query)?;
-    let serving = serving(alloc, cloud, query, s)?;
-    limit(alloc, cloud, &mut marks, &serving, 1)?;
+    let mut marks = taken_roots(alloc, found.cloud, found.query)?;
+    let serving = serving(alloc, found, s)?;
+    limit(alloc, found.cloud, &mut marks, &serving, 1)?;
     Ok(marks)
 }
 
@@ -96,9 +92,10 @@ pub fn first_apart(
         pair ≡ first_apart (providers_of cloud.now) (asked_of query.now)) }
     ensures inside { IfOk result (λ pair. AreSlots (asked_of query.now) pair) }
 {
+    let found = Met::find(alloc, cloud, query)?;
     let mut roots = Vec::new(alloc);
     for t in 0..count_slots(query) {
-        roots.push(roots_serving(alloc, cloud, query, t)?)?;
+        roots.push(roots_serving(alloc, &found, t)?)?;
         let served = Served {
             cloud,
             query,

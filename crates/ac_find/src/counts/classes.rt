@@ -13,11 +13,11 @@ ghost use Rattle.ac_rules.specs.Together.{holds};
 ghost use Rattle.ac_find.specs.Explained.{class_lefts, class_room, class_rooms, count_of, greatest_of, most_left, slot_counts, slot_told};
 ghost use Rattle.ac_find.specs.Shown.Explained.{fitting, slot_counted, slot_shown};
 
-use super::{SlotCounts, meets_rules, slot_counts};
+use super::met::Met;
+use super::{SlotCounts, slot_counts};
 use ac_base::NoMemory;
 use ac_cloud::Cloud;
 use ac_query::{Need, Query};
-use ac_rules::Placed;
 use ac_rules::rules::sums::has_room_of;
 use ac_rules::slots::{count_slots, needs_at};
 use std::alloc::Global;
@@ -34,12 +34,12 @@ pub struct SlotTold {
 }
 
 // Which providers meet the rules of a slot.
-fn fitting(alloc: Global, cloud: &Cloud, query: &Query, s: usize) -> Result<Vec<bool>, NoMemory>
-    requires { s < length (slots_of (asked_of query.now)) }
-    ensures { IfOk result (λ marks.
-        marks.items ≡ fitting (providers_of cloud.now) (slot_at (asked_of query.now) s)) }
+fn fitting(alloc: Global, found: &Met, s: usize) -> Result<Vec<bool>, NoMemory>
+    requires { s < length (slots_of (asked_of found.now.query.now)) }
+    ensures { IfOk result (λ marks. marks.items ≡ fitting (providers_of found.now.cloud.now)
+        (slot_at (asked_of found.now.query.now) s)) }
 {
-    let marks = (0..cloud.len()).map(|ix| meets_rules(&Placed::new(cloud, query, s, ix)));
+    let marks = (0..found.cloud.len()).map(|ix| found.of(s, ix) > 4);
     Ok(marks.collect(alloc)?)
 }
 
@@ -70,16 +70,17 @@ fn count_room(cloud: &Cloud, marks: &[bool], need: &Need) -> u32
 }
 
 // How many providers that meet the rules of a slot have room for each of its classes.
-fn count_rooms(alloc: Global, cloud: &Cloud, query: &Query, s: usize) -> Result<Vec<u32>, NoMemory>
-    requires { s < length (slots_of (asked_of query.now)) }
+fn count_rooms(alloc: Global, found: &Met, s: usize) -> Result<Vec<u32>, NoMemory>
+    requires { s < length (slots_of (asked_of found.now.query.now)) }
     ensures { IfOk result (λ rooms. rooms.items
-        ≡ map (class_room (providers_of cloud.now) (slot_at (asked_of query.now) s))
-        (slot_at (asked_of query.now) s).needs) }
+        ≡ map (class_room (providers_of found.now.cloud.now)
+        (slot_at (asked_of found.now.query.now) s))
+        (slot_at (asked_of found.now.query.now) s).needs) }
 {
-    let marks = fitting(alloc, cloud, query, s)?;
+    let marks = fitting(alloc, found, s)?;
     let mut rooms = Vec::new(alloc);
-    for need in needs_at(query, s) {
-        rooms.push(count_room(cloud, &marks, need))?;
+    for need in needs_at(found.query, s) {
+        rooms.push(count_room(found.cloud, &marks, need))?;
     }
     Ok(rooms)
 }
@@ -94,23 +95,17 @@ fn is_short(query: &Query, s: usize, counts: &SlotCounts) -> bool
 }
 
 // How many providers have room for each class of a slot; nothing where it has one class, or where each provider has room for all.
-fn rooms_of(
-    alloc: Global,
-    cloud: &Cloud,
-    query: &Query,
-    s: usize,
-    counts: &SlotCounts,
-) -> Result<Vec<u32>, NoMemory>
-    requires slot { s < length (slots_of (asked_of query.now)) }
-    requires counts { slot_counted counts.now
-        ≡ slot_counts (providers_of cloud.now) (slot_at (asked_of query.now) s) }
-    ensures { IfOk result (λ rooms. rooms.items
-        ≡ class_rooms (providers_of cloud.now) (slot_at (asked_of query.now) s)) }
+fn rooms_of(alloc: Global, found: &Met, s: usize, counts: &SlotCounts) -> Result<Vec<u32>, NoMemory>
+    requires slot { s < length (slots_of (asked_of found.now.query.now)) }
+    requires counts { slot_counted counts.now ≡ slot_counts (providers_of found.now.cloud.now)
+        (slot_at (asked_of found.now.query.now) s) }
+    ensures { IfOk result (λ rooms. rooms.items ≡ class_rooms (providers_of found.now.cloud.now)
+        (slot_at (asked_of found.now.query.now) s)) }
 {
-    if !is_short(query, s, counts) {
+    if !is_short(found.query, s, counts) {
         return Ok(Vec::new(alloc));
     }
-    count_rooms(alloc, cloud, query, s)
+    count_rooms(alloc, found, s)
 }
 
 // How much of a class is left to a provider that is marked; 0 to others.
@@ -118,7 +113,8 @@ fn left_marked(cloud: &Cloud, marks: &[bool], ix: u32, need: &Need) -> u64
     requires marks { length marks.now ≡ length (providers_of cloud.now) }
     requires provider { ix < length (providers_of cloud.now) }
     ensures { result ≡ (if slice_index_or marks.now ix false
-        then left_of (inventory_of (provider_at (providers_of cloud.now) ix) (need_entry need.now).0)
+        then left_of
+        (inventory_of (provider_at (providers_of cloud.now) ix) (need_entry need.now).0)
         (used_of (provider_at (providers_of cloud.now) ix) (need_entry need.now).0) else 0) }
 {
     if marks[ix as usize] {
@@ -145,50 +141,45 @@ fn most_left(cloud: &Cloud, marks: &[bool], need: &Need) -> u64
 }
 
 // The most that is left of each class of a slot to one of those that meet its rules.
-fn find_most(alloc: Global, cloud: &Cloud, query: &Query, s: usize) -> Result<Vec<u64>, NoMemory>
-    requires { s < length (slots_of (asked_of query.now)) }
+fn find_most(alloc: Global, found: &Met, s: usize) -> Result<Vec<u64>, NoMemory>
+    requires { s < length (slots_of (asked_of found.now.query.now)) }
     ensures { IfOk result (λ lefts. lefts.items
-        ≡ map (most_left (providers_of cloud.now) (slot_at (asked_of query.now) s))
-        (slot_at (asked_of query.now) s).needs) }
+        ≡ map (most_left (providers_of found.now.cloud.now)
+        (slot_at (asked_of found.now.query.now) s))
+        (slot_at (asked_of found.now.query.now) s).needs) }
 {
-    let marks = fitting(alloc, cloud, query, s)?;
+    let marks = fitting(alloc, found, s)?;
     let mut lefts = Vec::new(alloc);
-    for need in needs_at(query, s) {
-        lefts.push(most_left(cloud, &marks, need))?;
+    for need in needs_at(found.query, s) {
+        lefts.push(most_left(found.cloud, &marks, need))?;
     }
     Ok(lefts)
 }
 
 // The most that is left of each class of a slot, where some provider meets its rules and none has room; else nothing.
-fn lefts_of(
-    alloc: Global,
-    cloud: &Cloud,
-    query: &Query,
-    s: usize,
-    counts: &SlotCounts,
-) -> Result<Vec<u64>, NoMemory>
-    requires slot { s < length (slots_of (asked_of query.now)) }
-    requires counts { slot_counted counts.now
-        ≡ slot_counts (providers_of cloud.now) (slot_at (asked_of query.now) s) }
-    ensures { IfOk result (λ lefts. lefts.items
-        ≡ class_lefts (providers_of cloud.now) (slot_at (asked_of query.now) s)) }
+fn lefts_of(alloc: Global, found: &Met, s: usize, counts: &SlotCounts) -> Result<Vec<u64>, NoMemory>
+    requires slot { s < length (slots_of (asked_of found.now.query.now)) }
+    requires counts { slot_counted counts.now ≡ slot_counts (providers_of found.now.cloud.now)
+        (slot_at (asked_of found.now.query.now) s) }
+    ensures { IfOk result (λ lefts. lefts.items ≡ class_lefts (providers_of found.now.cloud.now)
+        (slot_at (asked_of found.now.query.now) s)) }
 {
     if counts.room == 0 && counts.tree > 0 {
-        find_most(alloc, cloud, query, s)
+        find_most(alloc, found, s)
     } else {
         Ok(Vec::new(alloc))
     }
 }
 
 // What is told of a slot.
-fn tell_slot(alloc: Global, cloud: &Cloud, query: &Query, s: usize) -> Result<SlotTold, NoMemory>
-    requires { s < length (slots_of (asked_of query.now)) }
-    ensures { IfOk result (λ told.
-        slot_shown told ≡ slot_told (providers_of cloud.now) (slot_at (asked_of query.now) s)) }
+fn tell_slot(alloc: Global, found: &Met, s: usize) -> Result<SlotTold, NoMemory>
+    requires { s < length (slots_of (asked_of found.now.query.now)) }
+    ensures { IfOk result (λ told. slot_shown told ≡ slot_told (providers_of found.now.cloud.now)
+        (slot_at (asked_of found.now.query.now) s)) }
 {
-    let counts = slot_counts(cloud, query, s);
-    let rooms = rooms_of(alloc, cloud, query, s, &counts)?;
-    let lefts = lefts_of(alloc, cloud, query, s, &counts)?;
+    let counts = slot_counts(found, s);
+    let rooms = rooms_of(alloc, found, s, &counts)?;
+    let lefts = lefts_of(alloc, found, s, &counts)?;
     Ok(SlotTold {
         counts,
         rooms,
@@ -201,9 +192,10 @@ pub fn all_slots(alloc: Global, cloud: &Cloud, query: &Query) -> Result<Vec<Slot
     ensures { IfOk result (λ told. map slot_shown told.items
         ≡ map (slot_told (providers_of cloud.now)) (slots_of (asked_of query.now))) }
 {
+    let found = Met::find(alloc, cloud, query)?;
     let mut told = Vec::new(alloc);
     for s in 0..count_slots(query) {
-        told.push(tell_slot(alloc, cloud, query, s)?)?;
+        told.push(tell_slot(alloc, &found, s)?)?;
     }
     Ok(told)
 }

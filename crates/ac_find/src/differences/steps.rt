@@ -1,6 +1,6 @@
 //! Capacities that are others in floating point, and whether a query comes to them.
 ghost use Rattle.std.specs.Prelude.{◌≡◌, ◌-◌, ◌<◌, IfOk, length, map};
-ghost use Rattle.std.specs.List.{list_any};
+ghost use Rattle.std.specs.List.{list_any, range_with_len};
 ghost use Rattle.ac_base.specs.Names.{class_bytes};
 ghost use Rattle.ac_cloud.specs.Cloud.CloudWorld.{providers_of};
 ghost use Rattle.ac_query.specs.Asked.{slots_of};
@@ -8,7 +8,7 @@ ghost use Rattle.ac_query.specs.Shown.Groups.{need_entry};
 ghost use Rattle.ac_query.specs.Shown.Queries.{asked_of};
 ghost use Rattle.ac_rules.specs.Shown.Assignments.{placed_of};
 ghost use Rattle.ac_rules.specs.Together.{amount_of};
-ghost use Rattle.ac_find.specs.Service.Differing.{computes_otherwise, gives_otherwise, needs_otherwise, some_gives_otherwise, some_provider, takes_last, total_of};
+ghost use Rattle.ac_find.specs.Service.Differing.{computes_otherwise, gives_otherwise, needs_otherwise, gives_some_otherwise, takes_last, total_of};
 
 use super::doubles::{capacity_by, is_other};
 use super::summaries::summarizes_otherwise;
@@ -87,27 +87,28 @@ fn gives_otherwise(placed: &Placed) -> bool
     has_need_otherwise(placed) && placed.fits()
 }
 
-// Whether there is such a provider for a slot.
-#[tactic(auto, using(ac_cloud::proofs::Ranges::range_more, ac_cloud::proofs::Ranges::range_end))]
-fn slot_gives_otherwise(cloud: &Cloud, query: &Query, s: usize) -> bool
-    requires { s < length (slots_of (asked_of query.now)) }
-    ensures { result ≡ some_provider (providers_of cloud.now) (asked_of query.now) s
-        (gives_otherwise (providers_of cloud.now) (asked_of query.now)) }
+// Whether a provider is such a one for some slot. What one provider has is looked at for all slots at once.
+#[tactic(auto, using(ac_cloud::proofs::Ranges::range_more, ac_cloud::proofs::Ranges::range_end), unfolding(crate::specs::Service::Differing::gives_some_otherwise))]
+fn gives_some_otherwise(cloud: &Cloud, query: &Query, ix: u32) -> bool
+    requires { ix < length (providers_of cloud.now) }
+    ensures { result
+        ≡ gives_some_otherwise (providers_of cloud.now) (asked_of query.now) ix }
 {
-    (0..cloud.len()).any(|ix| gives_otherwise(&Placed::new(cloud, query, s, ix)))
+    (0..count_slots(query)).any(|s| gives_otherwise(&Placed::new(cloud, query, s, ix)))
 }
 
 // Whether for some slot some provider meets the rules, and has an inventory for one of the slot's needs whose capacity is another in floating
 // point, or falls short of what is asked there.
 #[tactic(auto, using(ac_cloud::proofs::Ranges::range_more, ac_cloud::proofs::Ranges::range_end))]
 fn some_gives_otherwise(cloud: &Cloud, query: &Query) -> bool
-    ensures { result ≡ some_gives_otherwise (providers_of cloud.now) (asked_of query.now) }
+    ensures { result ≡ list_any (gives_some_otherwise (providers_of cloud.now) (asked_of query.now))
+        (range_with_len 0 (length (providers_of cloud.now))) }
 {
-    (0..count_slots(query)).any(|s| slot_gives_otherwise(cloud, query, s))
+    (0..cloud.len()).any(|ix| gives_some_otherwise(cloud, query, ix))
 }
 
 /// Whether that is so, or for some slot some provider meets the rules whose tree has an inventory with another capacity in double precision.
-#[tactic(auto, unfolding(crate::specs::Service::Differing::computes_otherwise))]
+#[tactic(auto, using(crate::proofs::Service::SharesLemmas::given_swapped), unfolding(crate::specs::Service::Differing::computes_otherwise))]
 pub(crate) fn computes_otherwise(
     alloc: Global,
     cloud: &Cloud,

@@ -1,5 +1,5 @@
 -- What the group without a suffix requires of its providers together: where a walk can't bring it any more.
-use Rattle.std.proofs.Common.{◌≡◌, ◌∙◌, ℕ, ◌+◌, ◌-◌, ◌<◌, zero, suc, Bool, true, false, ◌&&◌, ◌||◌, List, [], ◌∷◌, ◌++◌, inl, inr, Option, None, length, map, refl, sym, ap, ap₂, subst, arith, slice_index, slice_index_or, append_assoc}
+use Rattle.std.proofs.Common.{◌≡◌, ◌∙◌, ℕ, ◌<◌, zero, suc, Bool, true, false, ◌&&◌, ◌||◌, List, [], ◌∷◌, ◌++◌, inl, inr, Option, None, length, map, refl, sym, ap, ap₂, subst, arith, slice_index, slice_index_or, append_assoc}
 use Rattle.std.specs.List.{Contains, list_all, list_any, range_with_len, AllByRecursion as Each}
 use Rattle.std.specs.Option.{is_none, is_some}
 use Rattle.std.proofs.lemmas.Bool.{cases_Bool, cases_lt, cases_eq, and_parts, false≢true, false_from_ne_true}

@@ -1,5 +1,5 @@
 -- Slots of one group, whose providers meet the same rules by it.
-use Rattle.std.proofs.Common.{◌≡◌, ℕ, ◌<◌, Bool, Bor, true, false, ◌&&◌, List, Option, None, Some, length, map, refl, sym, ap, ◌∙◌, slice_index_or}
+use Rattle.std.proofs.Common.{◌≡◌, ℕ, ◌<◌, Bool, Bor, true, false, ◌&&◌, List, Option, None, Some, length, map, refl, ap, ◌∙◌, slice_index_or}
 use Rattle.std.specs.Prelude.{IfSome}
 use Rattle.std.specs.List.{range_with_len}
 use Rattle.ac_cloud.specs.World.{Provider}

@@ -66,7 +66,8 @@ fn traits(entries: &ArgMatches<'_>) -> bool
 // The candidates, perhaps from a token on, and perhaps at a host.
 fn candidates<'a>(entries: &ArgMatches<'a>) -> Option<Call<'a>>
     ensures { option_map call_shown result
-        ≡ asking (rows_of (found_of entries.now)) (candidates (after_of (rows_of (found_of entries.now)))
+        ≡ asking (rows_of (found_of entries.now))
+        (candidates (after_of (rows_of (found_of entries.now)))
         (at_of (rows_of (found_of entries.now))) (traits_of (rows_of (found_of entries.now)))) }
 {
     let after = entry(entries, "after");
@@ -78,7 +79,8 @@ fn candidates<'a>(entries: &ArgMatches<'a>) -> Option<Call<'a>>
 // Their tokens.
 fn tokens<'a>(entries: &ArgMatches<'a>) -> Option<Call<'a>>
     ensures { option_map call_shown result
-        ≡ asking (rows_of (found_of entries.now)) (tokens (after_of (rows_of (found_of entries.now)))
+        ≡ asking (rows_of (found_of entries.now))
+        (tokens (after_of (rows_of (found_of entries.now)))
         (at_of (rows_of (found_of entries.now)))) }
 {
     let after = entry(entries, "after");

@@ -7,5 +7,5 @@ returns g c =
       from = c.headers-inputs.result;
       to = c.answer_opened.new.inputs;
       tells = c.headers-inputs.ensures;
-      ran = c.answer_opened.ensures;
+      ran = c.answer_opened.ensures.ran;
     }

@@ -25,7 +25,10 @@ not_names line = by (calls_answer line.call)
 pub returns-in-Err-names_of : goal.returns-in-Err-names_of
 returns-in-Err-names_of g c =
     inr (inl (record {
+      tables = c.in-Ok.inputs;
+      files = rw (← c.paths-paths.ensures) c.in-Ok.ensures.files;
       of = beside.Names;
+      before = (changes_shown c.in-Ok-changes_of.changes, c.in-Ok-changes_of.ensures.held);
       one = (1, omega arith, refl);
       there = λ _. c.in-Err-names_of.ensures.fault.1;
       path = c.in-Err-names_of.path.now;
@@ -64,5 +67,5 @@ returns g c =
       named =
           subst (HoldsNames (g.H.Host.opens c.args.host.now) (g.H.Host.refuses c.args.host.now) g.H.File.Feed.remaining c.args.words.now.names c.args.words.now.aggregate_names)
           (sym c.text.ensures) c.in-Ok-names_of.ensures.held;
-      ran = c.answer_opened.ensures;
+      ran = c.answer_opened.ensures.ran;
     }))

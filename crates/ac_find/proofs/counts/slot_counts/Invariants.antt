@@ -7,8 +7,8 @@ use Rattle.ac_find.proofs.counts.slot_counts.Given as goal
 
 abbrev pub invariant-loop-ix : goal.invariant-loop-ix
 invariant-loop-ix l =
-    let all = providers_of l.cloud in
-    let asked = asked_of l.query in
+    let all = providers_of l.found.cloud.now in
+    let asked = asked_of l.found.query.now in
     record {
       units : l.units ≡ count_below l.ix (λ p. meets_units all (placed_at asked l.s p));
       traits : l.traits ≡ count_below l.ix (λ p. meets_traits all (placed_at asked l.s p));

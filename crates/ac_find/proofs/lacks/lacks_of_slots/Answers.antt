@@ -1,5 +1,6 @@
-use Rattle.std.proofs.Common.{◌≡◌, ◌∙◌, ℕ, [], length, map, take, Option, ap, arith}
-use Rattle.std.specs.List.{range_with_len}
+use Rattle.std.proofs.Common.{◌≡◌, ◌∙◌, ℕ, [], length, map, take, Option, ap, sym, arith}
+use Rattle.std.specs.List.{list_all, range_with_len}
+use Rattle.std.specs.Option.{is_some}
 use Rattle.std.proofs.lemmas.Grind.{common_steps}
 use Rattle.std.proofs.lemmas.List.{with_items_is}
 use Rattle.std.proofs.lemmas.List.FromFn.{length-map-range_with_len}
@@ -9,7 +10,7 @@ use Rattle.ac_query.specs.Shown.Queries.{asked_of}
 use Rattle.ac_find.specs.Lacking.{first_unserved}
 use Rattle.ac_find.specs.declared.lacks.Lack.{Lack}
 use Rattle.ac_prune.proofs.Search.OpenLemmas.{map_range_more}
-use Rattle.ac_find.proofs.LackingLemmas.{slot_noted}
+use Rattle.ac_find.proofs.LackingLemmas.{all_noted, slot_noted}
 use Rattle.ac_find.proofs.lacks.lacks_of_slots.Goals as goal
 
 pub loop-root-preserved : goal.loop-root-preserved
@@ -28,7 +29,7 @@ note-requires c =
     let all = providers_of c.args.cloud.now in
     let slots = take c.loop-s.s (slots_of (asked_of c.args.query.now)) in
     let many = ap length (c.deref_mut.ensures.value ∙ c.loop-s.invariant) ∙ length-map-range_with_len (λ r. first_unserved all r 1 slots) 0 (length all) in
-    omega (arith, many, ap length c.deref.ensures.value, c.in_ok-ranks.ensures.count)
+    omega (arith, many, ap length c.deref-in-loop-s.ensures.value, c.in_ok-ranks.ensures.count)
 
 pub loop-s-preserved : goal.loop-s-preserved
 loop-s-preserved c =
@@ -38,4 +39,9 @@ loop-s-preserved c =
     items
     ∙ slot_noted all (slots_of (asked_of c.args.query.now)) c.loop-s.s c.in_ok-ranks.ranks.items c.loop-s.lacks.items c.note.new.lacks
     (omega (arith, c.loop-s-test.true, c.count_slots-s-end.ensures.count)) c.loop-s.invariant (c.note.auto.lacks ∙ were) c.in_ok-ranks.ensures.small c.in_ok-ranks.ensures.ranks
-    (rw (c.deref_mut.ensures.value, c.deref.ensures.value) at c.note.ensures)
+    (rw (c.deref_mut.ensures.value, c.deref-in-loop-s.ensures.value) at c.note.ensures)
+
+pub returns-then-are_all_noted : goal.returns-then-are_all_noted
+returns-then-are_all_noted c =
+    c.loop-s.invariant ∙ all_noted (providers_of c.args.cloud.now) (slots_of (asked_of c.args.query.now)) c.loop-s.s
+    (ap (list_all is_some) (sym (c.deref.ensures.value ∙ c.loop-s.invariant)) ∙ (sym c.are_all_noted.ensures ∙ c.if-are_all_noted.true))

@@ -17,7 +17,7 @@ invariant_of-served c =
     let asked = asked_of c.args.query.now in
     record {
       each = subst (AreServed all asked) (sym (c.deref.ensures.value ∙ c.in_ok-push.ensures.items))
-          (rows_more all asked c.loop-t.roots.items c.loop-t.t c.in_ok-roots_serving.field-0 c.loop-t.invariant.roots c.loop-t.invariant.many c.in_ok-roots_serving.ensures);
+          (rows_more all asked c.loop-t.roots.items c.loop-t.t c.in_ok-roots_serving.field-0 c.loop-t.invariant.roots c.loop-t.invariant.many (rw (c.in_ok-found.ensures.cloud, c.in_ok-found.ensures.query) at c.in_ok-roots_serving.ensures));
     }
 
 pub returns-in-Some-clause-found : goal.returns-in-Some-clause-found
@@ -45,7 +45,7 @@ loop-t-preserved c =
     let here : apart_from all asked t ≡ None = sym c.apart_from.ensures.apart ∙ c.in_default.is in
     record {
       roots = subst (AreServed all asked) (sym c.in_ok-push.ensures.items)
-          (rows_more all asked c.loop-t.roots.items t c.in_ok-roots_serving.field-0 c.loop-t.invariant.roots c.loop-t.invariant.many c.in_ok-roots_serving.ensures);
+          (rows_more all asked c.loop-t.roots.items t c.in_ok-roots_serving.field-0 c.loop-t.invariant.roots c.loop-t.invariant.many (rw (c.in_ok-found.ensures.cloud, c.in_ok-found.ensures.query) at c.in_ok-roots_serving.ensures));
       many = ap length c.in_ok-push.ensures.items ∙ (length-append c.loop-t.roots.items (c.in_ok-roots_serving.field-0 ∷ []) ∙ ap (λ (k : ℕ). k + 1) c.loop-t.invariant.many);
       found = sym (find_from test t n low ∙ ap (λ (o : Option ℕ). if is_some o then Some t else find test (range_with_len (t + 1) (n - (t + 1)))) here) ∙ c.loop-t.invariant.found;
     }

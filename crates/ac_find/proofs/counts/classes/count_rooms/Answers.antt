@@ -11,12 +11,12 @@ use Rattle.ac_find.proofs.ExplainedLemmas.{class_marked}
 use Rattle.ac_find.proofs.counts.classes.count_rooms.Goals as goal
 
 pub count_room-requires : goal.count_room-requires
-count_room-requires c = ap length (c.deref.ensures.value ∙ c.in_ok-marks.ensures) ∙ length-map-range_with_len _ 0 (length (providers_of c.args.cloud.now))
+count_room-requires c = ap length (c.deref.ensures.value ∙ c.in_ok-marks.ensures) ∙ length-map-range_with_len _ 0 (length (providers_of c.args.found.now.cloud.now))
 
 pub loop-need-preserved : goal.loop-need-preserved
 loop-need-preserved c =
-    let all = providers_of c.args.cloud.now in
-    let slot = slot_at (asked_of c.args.query.now) c.args.s in
+    let all = providers_of c.args.found.now.cloud.now in
+    let slot = slot_at (asked_of c.args.found.now.query.now) c.args.s in
     let needs = c.needs_at-need-items.result.now in
     let i = c.loop-need.need-index in
     let room = class_room all slot in

@@ -8,4 +8,4 @@ use Rattle.ac_find.proofs.counts.classes.count_rooms.Given as goal
 
 abbrev pub invariant-loop-need : goal.invariant-loop-need
 invariant-loop-need l =
-    l.rooms.items ≡ map (class_room (providers_of l.cloud) (slot_at (asked_of l.query) l.s)) (map need_entry (take l.need-index l.need-items))
+    l.rooms.items ≡ map (class_room (providers_of l.found.cloud.now) (slot_at (asked_of l.found.query.now) l.s)) (map need_entry (take l.need-index l.need-items))

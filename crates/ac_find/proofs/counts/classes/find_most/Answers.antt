@@ -11,12 +11,12 @@ use Rattle.ac_find.proofs.ExplainedLemmas.{left_marked}
 use Rattle.ac_find.proofs.counts.classes.find_most.Goals as goal
 
 pub most_left-requires : goal.most_left-requires
-most_left-requires c = ap length (c.deref.ensures.value ∙ c.in_ok-marks.ensures) ∙ length-map-range_with_len _ 0 (length (providers_of c.args.cloud.now))
+most_left-requires c = ap length (c.deref.ensures.value ∙ c.in_ok-marks.ensures) ∙ length-map-range_with_len _ 0 (length (providers_of c.args.found.now.cloud.now))
 
 pub loop-need-preserved : goal.loop-need-preserved
 loop-need-preserved c =
-    let all = providers_of c.args.cloud.now in
-    let slot = slot_at (asked_of c.args.query.now) c.args.s in
+    let all = providers_of c.args.found.now.cloud.now in
+    let slot = slot_at (asked_of c.args.found.now.query.now) c.args.s in
     let needs = c.needs_at-need-items.result.now in
     let i = c.loop-need.need-index in
     let most = most_left all slot in

@@ -8,4 +8,4 @@ use Rattle.ac_find.proofs.counts.classes.find_most.Given as goal
 
 abbrev pub invariant-loop-need : goal.invariant-loop-need
 invariant-loop-need l =
-    l.lefts.items ≡ map (most_left (providers_of l.cloud) (slot_at (asked_of l.query) l.s)) (map need_entry (take l.need-index l.need-items))
+    l.lefts.items ≡ map (most_left (providers_of l.found.cloud.now) (slot_at (asked_of l.found.query.now) l.s)) (map need_entry (take l.need-index l.need-items))
