@@ -7,7 +7,7 @@ use Rattle.ac_run.specs.Tasks.{Paths, Task}
 use Rattle.ac_query.specs.declared.version.Version.{Version}
 use Rattle.ac_tables.specs.declared.fault.Table.{Table}
 use Rattle.ac_tables.specs.declared.read.FiveTables.{FiveTables}
-use Rattle.ac_session.proofs.Stood.{first_none}
+use Rattle.ac_session.proofs.Answers.Stood.{first_none}
 use Rattle.ac_words.specs.declared.form.Form.{Form}
 use Rattle.ac_words.specs.declared.form.Form.TheVariants.{Csv}
 use Rattle.ac_words.specs.Words.{Line, task_in}

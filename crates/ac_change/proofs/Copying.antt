@@ -1,0 +1,4 @@
+-- Trees that are added.
+pub mod Again
+pub mod Copied
+pub mod Copies

@@ -1,0 +1,3 @@
+-- The bytes of the tables.
+pub mod Drained
+pub mod FewBytes
