@@ -454,4 +454,3 @@ module _ (questions : MemFile) (words : List Text) (files : Files) (s : Streams)
       → EndsProgram gives ⊥ Sample (λ line. EndsLine (RanHeaders told never told never questions line s given) (EndsForLine (Opens files) (Refuses files) told never told never questions line s given) line) s given → ⊥
   none_held same holds =
       program_left questions words files s given (λ seven. omega (arith, seven, eight)) b holds.over _ None holds.asks (λ from to tell ran. never_stopped given ran.1.status eight) same
-

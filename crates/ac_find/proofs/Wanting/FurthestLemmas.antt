@@ -221,8 +221,15 @@ best c l x (y ∷ ys) =
     let p = it.0 in
     elim (either (c x) (l x) (c p) (l p)) [
       | inl below ↦ (p, inr it.1, (below, it.2))
-      | inr above ↦ (x, inl refl, (itself (c x) (l x), each_weaker (λ q. NoFurther (c q) (l q) (c p) (l p)) (λ q. NoFurther (c q) (l q) (c x) (l x)) (y ∷ ys)
-          (λ q here. through (c q) (l q) (c p) (l p) (c x) (l x) here above) it.2))
+      | inr above ↦ (
+        x,
+        inl refl,
+        (
+          itself (c x) (l x),
+          each_weaker (λ q. NoFurther (c q) (l q) (c p) (l p)) (λ q. NoFurther (c q) (l q) (c x) (l x)) (y ∷ ys)
+              (λ q here. through (c q) (l q) (c p) (l p) (c x) (l x) here above) it.2,
+        ),
+      )
     ]
 
 none_any : (f : ℕ → Bool) (xs : List ℕ) → Each (λ x. f x ≡ false) xs → list_any f xs ≡ false
@@ -238,8 +245,8 @@ some_furthest all slot (x ∷ xs) p there =
     let it = best met left x xs in
     let is_last = λ (p : ℕ). not (list_any (λ q. is_further all (in_slot slot q) (in_slot slot p)) (x ∷ xs)) in
     let last : is_last it.0 ≡ true = ap not (none_any (λ q. is_further all (in_slot slot q) (in_slot slot it.0)) (x ∷ xs)
-        (each_weaker (λ q. NoFurther (met q) (left q) (met it.0) (left it.0)) (λ q. is_further all (in_slot slot q) (in_slot slot it.0) ≡ false) (x ∷ xs)
-        (λ q here. not_further (met q) (left q) (met it.0) (left it.0) here) it.2)) in
+    (each_weaker (λ q. NoFurther (met q) (left q) (met it.0) (left it.0)) (λ q. is_further all (in_slot slot q) (in_slot slot it.0) ≡ false) (x ∷ xs)
+    (λ q here. not_further (met q) (left q) (met it.0) (left it.0) here) it.2)) in
     elim (found is_last (x ∷ xs)) [
       | inl here ↦ (here.0, here.1, (finds is_last (x ∷ xs) here.0 here.1).1)
       | inr none ↦ absurd (false≢true (sym (each_among (λ p. is_last p ≡ false) (x ∷ xs) it.0 none it.1) ∙ last))
