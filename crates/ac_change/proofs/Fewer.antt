@@ -19,8 +19,8 @@ use Rattle.ac_cloud.specs.Trees.{climb, up}
 use Rattle.ac_cloud.specs.World.{Provider, no_provider, provider_at, id_at, is_provider, parent_of, place_of, root_of}
 use Rattle.ac_change.specs.Laws.{OtherTreesStay}
 use Rattle.ac_change.specs.Trees.{AreTrees, ids_in}
-use Rattle.ac_change.proofs.Forest.Forests.{place_some, ranked}
-use Rattle.ac_change.proofs.Forest.Trees.{id_here, place_ids}
+use Rattle.ac_change.proofs.ForestFacts.Forests.{place_some, ranked}
+use Rattle.ac_change.proofs.ForestFacts.Trees.{id_here, place_ids}
 
 -- ---- the parent of an id, found in the list itself
 longer : (before : List Provider) (p : Provider) (n : ℕ) → length before ≡ n → length (before ++ p ∷ []) ≡ n + 1

@@ -4,6 +4,6 @@ pub mod Followed
 pub mod LinesRead
 pub mod Lists
 pub mod Removed
-pub mod Forest
-pub mod Copying
-pub mod Edits
+pub mod ForestFacts
+pub mod CopyFacts
+pub mod EditFacts

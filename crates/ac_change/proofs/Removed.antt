@@ -10,7 +10,7 @@ use Rattle.ac_change.specs.Trees.{AreTrees}
 use Rattle.ac_change.specs.declared.fault.ChangeKind.{ChangeKind}
 use Rattle.ac_change.specs.declared.draft.held.Held.{Held}
 use Rattle.ac_change.proofs.Fewer.{all_kept, at_all, firsts, other_trees_stay}
-use Rattle.ac_change.proofs.Edits.Touching.{rooted_here, same_kept}
+use Rattle.ac_change.proofs.EditFacts.Touching.{rooted_here, same_kept}
 
 -- what is kept of providers that are held
 pub shown_kept : (test : Provider → Bool) (list : List Held) → map provider_held (filter (λ h. test (provider_held h)) list) ≡ filter test (map provider_held list)

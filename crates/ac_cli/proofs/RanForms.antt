@@ -12,7 +12,7 @@ use Rattle.ac_run.specs.Answer.{Outcome, answer}
 use Rattle.ac_run.specs.Feeds.{Bytes, TellBytes}
 use Rattle.ac_run.specs.Run.{FailsOr, IsRefused}
 use Rattle.ac_run.specs.Tasks.{Task}
-use Rattle.ac_session.proofs.Answers.Stood.{first_none}
+use Rattle.ac_session.proofs.AnswerFacts.Stood.{first_none}
 use Rattle.ac_tables.specs.declared.fault.Table.{Table}
 use Rattle.ac_tables.specs.declared.read.FiveTables.{FiveTables}
 use Rattle.ac_words.specs.declared.form.Form.{Form}

@@ -1,5 +1,5 @@
 -- What was done for a line, by what it calls for; and how a run or a session ends for which memory gave out at first.
-use Rattle.std.proofs.Common.{◌≡◌, ℕ, ◌≤◌, List, [], Option, Some, None, arith, refl, subst}
+use Rattle.std.proofs.Common.{◌≡◌, ℕ, ◌≤◌, Bool, true, false, List, [], Option, Some, None, arith, refl, subst}
 use Rattle.ac_run.specs.Answer.{Outcome}
 use Rattle.ac_run.specs.Feeds.{Bytes}
 use Rattle.ac_run.specs.Lines.{memory_line}
@@ -7,12 +7,12 @@ use Rattle.ac_run.specs.Tasks.{Paths, Task}
 use Rattle.ac_query.specs.declared.version.Version.{Version}
 use Rattle.ac_tables.specs.declared.fault.Table.{Table}
 use Rattle.ac_tables.specs.declared.read.FiveTables.{FiveTables}
-use Rattle.ac_session.proofs.Answers.Stood.{first_none}
+use Rattle.ac_session.proofs.AnswerFacts.Stood.{first_none}
 use Rattle.ac_words.specs.declared.form.Form.{Form}
 use Rattle.ac_words.specs.declared.form.Form.TheVariants.{Csv}
-use Rattle.ac_words.specs.Words.{Line, task_in}
+use Rattle.ac_words.specs.Words.{Call, Line, beside, job, plan, session, task_in}
 use Rattle.ac_session.specs.Turns.Named.{terms_with}
-use Rattle.ac_cli.specs.Program.{HeldSession, IsLine, Ran, RanCall, RanJob, RanSession, RanTask, Stops, Streams, detail_in}
+use Rattle.ac_cli.specs.Program.{HeldSession, IsLine, Ran, RanCall, RanJob, RanSession, RanTask, Stops, Streams, detail_in, is_session}
 
 -- where memory gave out at first, nothing was taken
 module _ {R : Type 0} (remaining : R → Option (List ℕ)) (from : FiveTables R) (s : Streams) (given : ℕ)
@@ -64,6 +64,16 @@ module _ {R Q : Type 0} (remaining : R → Option (List ℕ)) (failures : R → 
       (subst (λ (d : Option Paths). HeldSession remaining failures asked fails d changes (terms_with line.version names) line.tries from to questions s given) same
       (subst (λ (v : Version). HeldSession remaining failures asked fails detail changes (terms_with v names) line.tries from to questions s given) read
       (subst (λ (n : Option ℕ). HeldSession remaining failures asked fails detail changes (terms_with version names) n from to questions s given) bound held)))
+
+-- a call that asks for no session asks for a task
+pub has_task : (line : Line) (file : List ℕ) (changes names : Option (List ℕ)) (detail : Option Paths) → is_session line.call ≡ false → None ≡ task_in line file changes names detail → ⊥
+has_task line file changes names detail = by line.call
+  where
+    by : (call : Call) → is_session call ≡ false → None ≡ task_in (record line { call = call }) file changes names detail → ⊥
+    by (job command query) off none = absurd (cc)
+    by (plan path metrics) off none = absurd (cc)
+    by (beside path query) off none = absurd (cc)
+    by session off none = absurd (cc)
 
 -- what is said of a run is said of its task by another name
 pub of_task : {R : Type 0} (remaining : R → Option (List ℕ)) (failures : R → ℕ) (from to : FiveTables R) (s : Streams) (given : ℕ) (task other : Task) → task ≡ other

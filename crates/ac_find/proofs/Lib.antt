@@ -5,5 +5,5 @@ pub mod NobodyLaws
 pub mod AuditFacts
 pub mod ToldLemmas
 pub mod Service
-pub mod Counting
-pub mod Wanting
+pub mod CountFacts
+pub mod WantingFacts

@@ -112,7 +112,7 @@ pub(crate) fn count_met(placed: &Placed) -> u32
 }
 
 // The same, as it is defined.
-#[tactic(auto, using(crate::proofs::Wanting::RankLemmas::met_value))]
+#[tactic(auto, using(crate::proofs::WantingFacts::RankLemmas::met_value))]
 fn tests_met(placed: &Placed) -> u32
     ensures { result ≡ count_met (providers_of placed.now.cloud.now) (placed_of placed.now) }
 {
@@ -120,7 +120,7 @@ fn tests_met(placed: &Placed) -> u32
 }
 
 // How many providers meet what a slot asks.
-#[tactic(auto, using(crate::proofs::Counting::ExplainedLemmas::count_more, crate::proofs::Counting::ExplainedLemmas::count_few))]
+#[tactic(auto, using(crate::proofs::CountFacts::ExplainedLemmas::count_more, crate::proofs::CountFacts::ExplainedLemmas::count_few))]
 fn slot_counts(found: &Met, s: usize) -> SlotCounts
     requires { s < length (slots_of (asked_of found.now.query.now)) }
     ensures { slot_counted result ≡ slot_counts (providers_of found.now.cloud.now)
@@ -204,7 +204,7 @@ fn limit_slots(
 }
 
 // How many roots there are.
-#[tactic(auto, using(crate::proofs::Counting::ExplainedLemmas::count_more, crate::proofs::Counting::ExplainedLemmas::count_few))]
+#[tactic(auto, using(crate::proofs::CountFacts::ExplainedLemmas::count_more, crate::proofs::CountFacts::ExplainedLemmas::count_few))]
 fn count_roots(cloud: &Cloud) -> u32
     ensures { result ≡ count_of (providers_of cloud.now)
         (λ r. is_root (providers_of cloud.now) (id_at (providers_of cloud.now) r)) }

@@ -21,7 +21,7 @@ use Rattle.ac_find.specs.Unheld.{unheld_group_detail, unheld_list_detail}
 use Rattle.ac_find.specs.declared.lacks.Lack.TheVariants as lack
 use Rattle.ac_find.specs.declared.lacks.Stage.{Stage}
 use Rattle.ac_find.specs.declared.lacks.Stage.TheVariants as stage
-use Rattle.ac_find.proofs.Wanting.FurthestLemmas.{furthest_there, lacked_at, unheld_at_root, untaken_at}
+use Rattle.ac_find.proofs.WantingFacts.FurthestLemmas.{furthest_there, lacked_at, unheld_at_root, untaken_at}
 use Rattle.ac_find.proofs.NoneLemmas.{any_among}
 use Rattle.ac_find.proofs.ToldLemmas.{aggregates_there, behind, inventory_there, lists_told, map_told, missed, missing_told, room_there, root_there, some_same, traits_there, tree_there, units_there}
 use Rattle.ac_report.specs.Findings.SlotDetails.{detail_of, failed_detail, nobody_text}

@@ -4,8 +4,8 @@ pub mod QueriesRead
 pub mod Comparing
 pub mod SplitAt
 pub mod EachFound
-pub mod ByNames
-pub mod Flavors
-pub mod Hosts
-pub mod Refused
-pub mod Drains
+pub mod NamingFacts
+pub mod FlavorFacts
+pub mod HostFacts
+pub mod RefusalFacts
+pub mod DrainFacts

@@ -73,7 +73,7 @@ fn walk_of<'a>(
 }
 
 // The tokens of a page, a line each, of UUIDs or by names.
-#[tactic(auto, using(crate::proofs::Refused::Delivering::refused))]
+#[tactic(auto, using(crate::proofs::RefusalFacts::Delivering::refused))]
 fn write_lines<W: Sink>(
     alloc: Global,
     cloud: &Cloud,
@@ -98,7 +98,7 @@ fn write_lines<W: Sink>(
 }
 
 // The body of a page, with traits or without.
-#[tactic(auto, using(crate::proofs::Refused::Delivering::refused))]
+#[tactic(auto, using(crate::proofs::RefusalFacts::Delivering::refused))]
 fn write_body<W: Sink>(
     alloc: Global,
     cloud: &Cloud,
@@ -121,7 +121,7 @@ fn write_body<W: Sink>(
 }
 
 // The rows of a page, with traits or without.
-#[tactic(auto, using(crate::proofs::Refused::Delivering::refused))]
+#[tactic(auto, using(crate::proofs::RefusalFacts::Delivering::refused))]
 fn write_rows<W: Sink>(
     alloc: Global,
     cloud: &Cloud,
@@ -153,7 +153,7 @@ fn write_plain<W: Sink>(verdict: Verdict, out: &mut W) -> Result<u8, PageFault>
 }
 
 // The rule that a list breaks, with the first thing by which it does.
-#[tactic(auto, using(crate::proofs::Refused::Delivering::refused), unfolding(crate::specs::Outputs::detailed_text))]
+#[tactic(auto, using(crate::proofs::RefusalFacts::Delivering::refused), unfolding(crate::specs::Outputs::detailed_text))]
 fn write_broken<W: Sink>(
     alloc: Global,
     assignment: &Assignment<'_>,
@@ -234,7 +234,7 @@ fn write_verdict<W: Sink>(
 }
 
 // How far a query comes, whether it has a candidate, or would have one without one thing, and where the service may answer otherwise.
-#[tactic(auto, using(crate::proofs::Refused::Delivering::refused, ac_base::proofs::Leaving::behind), unfolding(ac_report::specs::Findings::Explanation::explanation_text))]
+#[tactic(auto, using(crate::proofs::RefusalFacts::Delivering::refused, ac_base::proofs::Leaving::behind), unfolding(ac_report::specs::Findings::Explanation::explanation_text))]
 fn write_explanation<W: Sink>(
     alloc: Global,
     cloud: &Cloud,
@@ -291,7 +291,7 @@ fn hosts_told(
 }
 
 // Which roots fit, and what the others lack, or how many of them lack what: of all roots, or of those of an aggregate.
-#[tactic(auto, using(crate::proofs::Refused::Delivering::refused))]
+#[tactic(auto, using(crate::proofs::RefusalFacts::Delivering::refused))]
 fn write_hosts<W: Sink>(
     alloc: Global,
     cloud: &Cloud,
@@ -325,7 +325,7 @@ fn write_hosts<W: Sink>(
 }
 
 // How far a query comes in the tree of a provider.
-#[tactic(auto, using(crate::proofs::Refused::Delivering::refused))]
+#[tactic(auto, using(crate::proofs::RefusalFacts::Delivering::refused))]
 fn write_why<W: Sink>(
     alloc: Global,
     cloud: &Cloud,
@@ -345,7 +345,7 @@ fn write_why<W: Sink>(
 }
 
 // What an answer of the service and the candidates have that the other hasn't.
-#[tactic(auto, using(crate::proofs::Refused::Delivering::refused))]
+#[tactic(auto, using(crate::proofs::RefusalFacts::Delivering::refused))]
 fn write_comparison<W: Sink>(
     alloc: Global,
     cloud: &Cloud,
@@ -363,7 +363,7 @@ fn write_comparison<W: Sink>(
 }
 
 // What is amiss in the cloud.
-#[tactic(auto, using(crate::proofs::Refused::Delivering::refused))]
+#[tactic(auto, using(crate::proofs::RefusalFacts::Delivering::refused))]
 fn write_audit<W: Sink>(
     alloc: Global,
     cloud: &Cloud,
@@ -379,7 +379,7 @@ fn write_audit<W: Sink>(
 }
 
 // How a query is read.
-#[tactic(auto, using(crate::proofs::Refused::Delivering::refused))]
+#[tactic(auto, using(crate::proofs::RefusalFacts::Delivering::refused))]
 fn write_reading<W: Sink>(alloc: Global, query: &Query, out: &mut W) -> Result<u8, PageFault>
     ensures { Delivers (reading (asked_of query.now) None) ⊥ result (W.taken out.old)
         (W.taken out.new) (W.failures out.old) (W.failures out.new) }

@@ -148,7 +148,7 @@ impl<'a> Room<'a> {
 }
 
 // How many of each flavor.
-#[tactic(auto, using(crate::proofs::Flavors::FlavorsRead::one_may_stop))]
+#[tactic(auto, using(crate::proofs::FlavorFacts::FlavorsRead::one_may_stop))]
 fn find_rooms<'a>(
     alloc: Global,
     cloud: &Cloud,
@@ -187,7 +187,7 @@ fn have_enough(rooms: &[Room]) -> bool
 }
 
 /// Writes how many of each flavor a cloud can hold: as rows, or as metrics.
-#[tactic(auto, using(crate::proofs::Refused::Delivering::refused))]
+#[tactic(auto, using(crate::proofs::RefusalFacts::Delivering::refused))]
 pub(crate) fn write_capacity<W: Sink>(
     alloc: Global,
     cloud: &Cloud,

@@ -9,19 +9,19 @@ pub fn stated_requests_differ()
 {}
 
 /// A query fits at no root exactly where it has no candidate; and then nothing can be placed.
-#[tactic(auto, using(crate::proofs::Hosts::HostsThere::hosts_are_there))]
+#[tactic(auto, using(crate::proofs::HostFacts::HostsThere::hosts_are_there))]
 pub fn hosts_are_there()
     ensures { HostsAreThere }
 {}
 
 /// A query with UUIDs in place of names has the pairs of the query by names, with UUIDs in place of names, and no others.
-#[tactic(auto, using(crate::proofs::ByNames::PairsNamed::names_keep_pairs))]
+#[tactic(auto, using(crate::proofs::NamingFacts::PairsNamed::names_keep_pairs))]
 pub fn names_keep_pairs()
     ensures { NamesKeepPairs }
 {}
 
 /// A line by names is read as the token of its list.
-#[tactic(auto, using(crate::proofs::ByNames::LinesRead::lines_are_read))]
+#[tactic(auto, using(crate::proofs::NamingFacts::LinesRead::lines_are_read))]
 pub fn lines_are_read()
     ensures { LinesAreRead }
 {}

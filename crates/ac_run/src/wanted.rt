@@ -143,7 +143,7 @@ fn find_host(cloud: &Cloud, host: &str) -> Result<u32, AskRefusal>
 }
 
 /// The place of the root at which candidates are to stand, where a host names one.
-#[tactic(auto, using(crate::proofs::Hosts::HostFound::host_within))]
+#[tactic(auto, using(crate::proofs::HostFacts::HostFound::host_within))]
 pub fn find_root(cloud: &Cloud, host: Option<&str>) -> Result<Option<u32>, AskRefusal>
     ensures found { IfOk result (λ root. (say : Option ℕ → Says) (asked : Asked)
         (ids : Option (List ℕ)) → at_host (providers_of cloud.now)
@@ -162,7 +162,7 @@ pub fn find_root(cloud: &Cloud, host: Option<&str>) -> Result<Option<u32>, AskRe
 }
 
 // A page: its token is read, and then its root is looked for.
-#[tactic(auto, using(crate::proofs::Hosts::HostFound::page_at))]
+#[tactic(auto, using(crate::proofs::HostFacts::HostFound::page_at))]
 fn read_page(
     alloc: Global,
     cloud: &Cloud,
@@ -223,7 +223,7 @@ fn read_compared(alloc: Global, bytes: &[u8]) -> Result<ServiceAnswer, AskRefusa
 }
 
 // What a query is wanted for.
-#[tactic(auto, using(crate::proofs::Hosts::HostFound::host_within))]
+#[tactic(auto, using(crate::proofs::HostFacts::HostFound::host_within))]
 fn wanted_of(alloc: Global, job: &Job, cloud: &Cloud, query: Query) -> Result<Wanted, AskRefusal>
     requires read { asked_of query ≡ asked_by job.now.version (pairs_of job.now.query.now) }
     requires units { asks_units (asked_of query) ≡ true }

@@ -1,5 +1,5 @@
 pub mod Plain
 pub mod UsageRows
-pub mod Reads
-pub mod Answers
-pub mod Turning
+pub mod ReadingFacts
+pub mod AnswerFacts
+pub mod TurnFacts

@@ -32,7 +32,7 @@ use Rattle.ac_tables.specs.declared.fault.TableKind.{TableKind}
 use Rattle.ac_tables.specs.declared.fault.TableKind.TheVariants as kind
 use Rattle.ac_run.specs.declared.refusal.AskRefusal.{AskRefusal}
 use Rattle.ac_run.specs.declared.refusal.AskRefusal.TheVariants as ask
-use Rattle.ac_session.proofs.Reads.Leading.Firsts.{before_next}
+use Rattle.ac_session.proofs.ReadingFacts.Leading.Firsts.{before_next}
 use Rattle.ac_session.specs.Frames.{behind_status}
 use Rattle.ac_session.specs.Lines.{first_line, is_newline}
 

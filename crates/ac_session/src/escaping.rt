@@ -59,7 +59,7 @@ fn plain_part(text: &[u8]) -> &[u8]
 }
 
 // Whether a line begins behind a text.
-#[tactic(auto, using(crate::proofs::Answers::Escaped::ends_with))]
+#[tactic(auto, using(crate::proofs::AnswerFacts::Escaped::ends_with))]
 fn begins_behind(begins: bool, text: &[u8]) -> bool
     ensures { result ≡ begins_line begins text.now }
 {

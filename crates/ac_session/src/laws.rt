@@ -18,7 +18,7 @@ pub fn claim_turns_narrow()
 {}
 
 /// Each candidate before a release is one behind it, whatever was released.
-#[tactic(auto, using(crate::proofs::Turning::Claims::Widening::release_turns_widen))]
+#[tactic(auto, using(crate::proofs::TurnFacts::Claims::Widening::release_turns_widen))]
 pub fn release_turns_widen()
     ensures { ReleaseTurnsWiden }
 {}
@@ -45,25 +45,25 @@ pub fn back_to_mark()
 {}
 
 /// Who reads up to the first line that begins with `=` has read what is written for a line of a session, whatever it says and whatever stands behind it.
-#[tactic(auto, using(crate::proofs::Answers::Apart::answers_apart))]
+#[tactic(auto, using(crate::proofs::AnswerFacts::Apart::answers_apart))]
 pub fn answers_apart()
     ensures { AnswersApart }
 {}
 
 /// Who takes the blank off each line that begins with one has the lines of the answer again.
-#[tactic(auto, using(crate::proofs::Answers::Escaped::blanks_come_off))]
+#[tactic(auto, using(crate::proofs::AnswerFacts::Escaped::blanks_come_off))]
 pub fn blanks_come_off()
     ensures { BlanksComeOff }
 {}
 
 /// Who reads a session answer by answer reads what is written for one line after another.
-#[tactic(auto, using(crate::proofs::Answers::Apart::sessions_apart))]
+#[tactic(auto, using(crate::proofs::AnswerFacts::Apart::sessions_apart))]
 pub fn sessions_apart()
     ensures { SessionsApart }
 {}
 
 /// So does who reads one in which searches stopped.
-#[tactic(auto, using(crate::proofs::Answers::Apart::stopped_apart))]
+#[tactic(auto, using(crate::proofs::AnswerFacts::Apart::stopped_apart))]
 pub fn stopped_apart()
     ensures { StoppedApart }
 {}
@@ -74,19 +74,19 @@ pub fn sessions_go_on()
 {}
 
 /// Whatever is asked: where more is used of an inventory than its capacity, no more is used of it than the tables say. So nothing gets overbooked.
-#[tactic(auto, using(crate::proofs::Turning::Claims::Overbooked::sessions_never_overbook))]
+#[tactic(auto, using(crate::proofs::TurnFacts::Claims::Overbooked::sessions_never_overbook))]
 pub fn sessions_never_overbook()
     ensures { SessionsNeverOverbook }
 {}
 
 /// Where a query is accepted, the line of each of its candidates claims it, as `tokens` writes that line.
-#[tactic(auto, using(crate::proofs::Turning::Claims::Lines::lines_are_claimed))]
+#[tactic(auto, using(crate::proofs::TurnFacts::Claims::Lines::lines_are_claimed))]
 pub fn lines_are_claimed()
     ensures { LinesAreClaimed }
 {}
 
 /// What `fill` leaves is what claims by its lines leave, one after another.
-#[tactic(auto, using(crate::proofs::Turning::Claims::Lines::fills_are_claims))]
+#[tactic(auto, using(crate::proofs::TurnFacts::Claims::Lines::fills_are_claims))]
 pub fn fills_are_claims()
     ensures { FillsAreClaims }
 {}

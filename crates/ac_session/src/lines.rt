@@ -53,7 +53,7 @@ fn newline_in(bytes: &[u8]) -> Option<usize>
 }
 
 // The place of the first newline, which stands at none of the first so many places.
-#[tactic(auto, using(crate::proofs::Reads::Leading::Firsts::place_inside, crate::proofs::Reads::Leading::Firsts::position_behind))]
+#[tactic(auto, using(crate::proofs::ReadingFacts::Leading::Firsts::place_inside, crate::proofs::ReadingFacts::Leading::Firsts::position_behind))]
 fn newline_behind(bytes: &[u8], searched: usize) -> Option<usize>
     requires { searched ≤ position_or_len is_newline bytes.now }
     ensures { result ≡ position is_newline bytes.now }

@@ -77,7 +77,7 @@ fn cut(text: &str) -> (&str, Option<&str>)
 }
 
 // The word of a rest, where it is one alone.
-#[tactic(auto, using(crate::proofs::Reads::Cuts::one_alone, crate::proofs::Reads::Cuts::two_words_at_least))]
+#[tactic(auto, using(crate::proofs::ReadingFacts::Cuts::one_alone, crate::proofs::ReadingFacts::Cuts::two_words_at_least))]
 fn one_word(rest: Option<&str>) -> Option<&str>
     ensures { option_map (λ t. t.now) result
         ≡ one_of (words_behind (option_map (λ t. t.now) rest.entry)) }
@@ -106,7 +106,7 @@ fn is_logged(text: &str) -> bool
 }
 
 // The query of a rest, where nothing else stands there but what a log has beside it.
-#[tactic(auto, using(crate::proofs::Reads::Cuts::logged_alone, crate::proofs::Reads::Cuts::query_alone))]
+#[tactic(auto, using(crate::proofs::ReadingFacts::Cuts::logged_alone, crate::proofs::ReadingFacts::Cuts::query_alone))]
 fn one_query(rest: Option<&str>) -> Option<&str>
     ensures { option_map (λ t. t.now) result
         ≡ one_of (query_words (option_map (λ t. t.now) rest.entry)) }
@@ -118,7 +118,7 @@ fn one_query(rest: Option<&str>) -> Option<&str>
 }
 
 // The query of a rest and one word more, where they are all.
-#[tactic(auto, using(crate::proofs::Reads::Cuts::logged_alone, crate::proofs::Reads::Cuts::query_with_word))]
+#[tactic(auto, using(crate::proofs::ReadingFacts::Cuts::logged_alone, crate::proofs::ReadingFacts::Cuts::query_with_word))]
 fn query_and_word(rest: Option<&str>) -> Option<(&str, &str)>
     ensures { option_map (λ p. (p.0.now, p.1.now)) result
         ≡ two_of (query_words (option_map (λ t. t.now) rest.entry)) }
@@ -139,7 +139,7 @@ fn name(word: &str) -> Option<&str>
 }
 
 // What stands behind a query that is claimed: a token, and perhaps a name.
-#[tactic(auto, using(crate::proofs::Reads::Cuts::named_alone, crate::proofs::Reads::Cuts::named_more))]
+#[tactic(auto, using(crate::proofs::ReadingFacts::Cuts::named_alone, crate::proofs::ReadingFacts::Cuts::named_more))]
 fn token_and_name(rest: Option<&str>) -> Option<(&str, Option<&str>)>
     ensures { option_map (λ p. (p.0.now, option_map (λ t. t.now) p.1)) result
         ≡ named_of (words_behind (option_map (λ t. t.now) rest.entry)) }
@@ -154,7 +154,7 @@ fn token_and_name(rest: Option<&str>) -> Option<(&str, Option<&str>)>
 }
 
 // The query of a rest, with what stands behind it where it is claimed.
-#[tactic(auto, using(crate::proofs::Reads::Cuts::logged_alone, crate::proofs::Reads::Cuts::query_with_claim))]
+#[tactic(auto, using(crate::proofs::ReadingFacts::Cuts::logged_alone, crate::proofs::ReadingFacts::Cuts::query_with_claim))]
 fn claimed(rest: Option<&str>) -> Option<(&str, &str, Option<&str>)>
     ensures { option_map (λ p. (p.0.now, p.1.now, option_map (λ t. t.now) p.2)) result
         ≡ claim_of (query_words (option_map (λ t. t.now) rest.entry)) }
@@ -168,7 +168,7 @@ fn claimed(rest: Option<&str>) -> Option<(&str, &str, Option<&str>)>
 }
 
 // Two words.
-#[tactic(auto, using(crate::proofs::Reads::Cuts::two_words_of))]
+#[tactic(auto, using(crate::proofs::ReadingFacts::Cuts::two_words_of))]
 fn two_words(rest: Option<&str>) -> Option<(&str, &str)>
     ensures { option_map (λ p. (p.0.now, p.1.now)) result
         ≡ two_of (words_behind (option_map (λ t. t.now) rest.entry)) }
@@ -179,7 +179,7 @@ fn two_words(rest: Option<&str>) -> Option<(&str, &str)>
 }
 
 // Two words, or three, of which the last is a host behind `at`, and the first of three a token.
-#[tactic(auto, using(crate::proofs::Reads::Cuts::part_with_host))]
+#[tactic(auto, using(crate::proofs::ReadingFacts::Cuts::part_with_host))]
 fn part_with_host<'a>(first: &'a str, rest: &'a str) -> Option<(Option<&'a str>, Option<&'a str>)>
     ensures { option_map (λ p. (option_map (λ t. t.now) p.0, option_map (λ t. t.now) p.1)) result
         ≡ part_of (first.now ∷ words_of rest.now) }
@@ -195,7 +195,7 @@ fn part_with_host<'a>(first: &'a str, rest: &'a str) -> Option<(Option<&'a str>,
 }
 
 // What stands behind a query: perhaps a token to begin after, and perhaps a host behind `at`.
-#[tactic(auto, using(crate::proofs::Reads::Cuts::part_alone, crate::proofs::Reads::Cuts::part_more))]
+#[tactic(auto, using(crate::proofs::ReadingFacts::Cuts::part_alone, crate::proofs::ReadingFacts::Cuts::part_more))]
 fn part(rest: Option<&str>) -> Option<(Option<&str>, Option<&str>)>
     ensures { option_map (λ p. (option_map (λ t. t.now) p.0, option_map (λ t. t.now) p.1)) result
         ≡ part_of (words_behind (option_map (λ t. t.now) rest.entry)) }
@@ -210,7 +210,7 @@ fn part(rest: Option<&str>) -> Option<(Option<&str>, Option<&str>)>
 }
 
 // The query of a rest, with what stands behind it.
-#[tactic(auto, using(crate::proofs::Reads::Cuts::logged_alone, crate::proofs::Reads::Cuts::query_with_part))]
+#[tactic(auto, using(crate::proofs::ReadingFacts::Cuts::logged_alone, crate::proofs::ReadingFacts::Cuts::query_with_part))]
 fn search(rest: Option<&str>) -> Option<(&str, Option<&str>, Option<&str>)>
     ensures { option_map (λ p. (p.0.now, option_map (λ t. t.now) p.1, option_map (λ t. t.now) p.2))
         result ≡ search_of (query_words (option_map (λ t. t.now) rest.entry)) }
@@ -224,7 +224,7 @@ fn search(rest: Option<&str>) -> Option<(&str, Option<&str>, Option<&str>)>
 }
 
 // What the words behind a name ask, where there is to be none.
-#[tactic(auto, using(crate::proofs::Reads::Cuts::not_alone))]
+#[tactic(auto, using(crate::proofs::ReadingFacts::Cuts::not_alone))]
 fn alone<'a>(question: Question<'a>, rest: Option<&str>) -> Question<'a>
     ensures { asked_in result ≡ asks_alone
         (words_behind (option_map (λ t. t.now) rest.entry)) (asked_in question.entry) }

@@ -121,7 +121,7 @@ fn read_places(
 }
 
 // The query of a claim or a release, and the places of the providers that its token names, where each is there.
-#[tactic(auto, using(crate::proofs::Turning::Turned::query_refused, crate::proofs::Turning::Turned::token_refused))]
+#[tactic(auto, using(crate::proofs::TurnFacts::Turned::query_refused, crate::proofs::TurnFacts::Turned::token_refused))]
 fn read_assignment(
     alloc: Global,
     cloud: &Cloud,
@@ -418,7 +418,7 @@ fn answer_usages<W: Sink>(alloc: Global, cloud: &Cloud, out: &mut W) -> Result<E
 }
 
 // What is left of the providers of a host's tree.
-#[tactic(auto, using(ac_run::proofs::Hosts::HostFound::host_within), unfolding(crate::specs::LeftRows::left_answer))]
+#[tactic(auto, using(ac_run::proofs::HostFacts::HostFound::host_within), unfolding(crate::specs::LeftRows::left_answer))]
 fn answer_left_at<W: Sink>(
     alloc: Global,
     cloud: &Cloud,

@@ -33,7 +33,7 @@ struct Pattern {
 }
 
 // The same provider.
-#[tactic(auto, using(crate::proofs::Copying::Copies::same_lists))]
+#[tactic(auto, using(crate::proofs::CopyFacts::Copies::same_lists))]
 pub(super) fn copy(alloc: Global, held: &Held) -> Result<Held, NoMemory>
     ensures provider { IfOk result (λ new. provider_held new ≡ provider_held held.now) }
     ensures root { IfOk result (λ new. new.root ≡ held.now.root) }
@@ -114,7 +114,7 @@ fn parent_copied(ids: &Ids, first: u128, parent: Option<Id>) -> Option<Id>
 }
 
 // The copy of one of these, with the root of the copy.
-#[tactic(auto, using(crate::proofs::Copying::Copies::same_lists))]
+#[tactic(auto, using(crate::proofs::CopyFacts::Copies::same_lists))]
 fn copy_one(
     alloc: Global,
     ids: &Ids,
@@ -145,7 +145,7 @@ fn copy_one(
 
 impl Pattern {
     // The tree of a root.
-    #[tactic(auto, using(crate::proofs::Copying::Copies::tree_held))]
+    #[tactic(auto, using(crate::proofs::CopyFacts::Copies::tree_held))]
     fn of(alloc: Global, draft: &Draft, root: Id) -> Result<Pattern, NoMemory>
         ensures tree { IfOk result (λ new.
             all_held new.members.items ≡ tree_of (all_held draft.now.list.items) root) }
@@ -196,7 +196,7 @@ fn are_too_many(list: &[Held], more: u64) -> bool
 
 impl Draft {
     // With one copy more of a tree, behind all.
-    #[tactic(auto, using(crate::proofs::Copying::Copies::after_copy))]
+    #[tactic(auto, using(crate::proofs::CopyFacts::Copies::after_copy))]
     fn with_copy(
         self,
         alloc: Global,

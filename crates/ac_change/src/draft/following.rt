@@ -23,7 +23,7 @@ use ac_cloud::Cloud;
 use std::alloc::Global;
 
 // The UUID of a provider's parent, where it has one.
-#[tactic(auto, using(crate::proofs::Forest::Clouds::own_parent))]
+#[tactic(auto, using(crate::proofs::ForestFacts::Clouds::own_parent))]
 fn parent_id(cloud: &Cloud, ix: u32) -> Option<Id>
     requires { ix < length (providers_of cloud.now) }
     ensures { result ≡ (provider_at (providers_of cloud.now) ix).parent }
@@ -35,7 +35,7 @@ fn parent_id(cloud: &Cloud, ix: u32) -> Option<Id>
 }
 
 // A provider of a cloud.
-#[tactic(auto, using(crate::proofs::Forest::Clouds::lists_rise))]
+#[tactic(auto, using(crate::proofs::ForestFacts::Clouds::lists_rise))]
 fn hold(alloc: Global, cloud: &Cloud, ix: u32) -> Result<Held, NoMemory>
     requires { ix < length (providers_of cloud.now) }
     ensures provider { IfOk result (λ held.
@@ -87,7 +87,7 @@ fn others(alloc: Global, list: Vec<Held>, root: Id) -> Result<Vec<Held>, NoMemor
 
 impl Draft {
     // Of a cloud.
-    #[tactic(auto, using(crate::proofs::Forest::Clouds::held_here))]
+    #[tactic(auto, using(crate::proofs::ForestFacts::Clouds::held_here))]
     pub(crate) fn of(alloc: Global, cloud: &Cloud) -> Result<Draft, NoMemory>
         ensures { IfOk result (λ draft. all_held draft.list.items ≡ providers_of cloud.now) }
     {
@@ -96,7 +96,7 @@ impl Draft {
     }
 
     // After an edit of those whom it touches.
-    #[tactic(auto, using(crate::proofs::Edits::AfterEdit::after_edit))]
+    #[tactic(auto, using(crate::proofs::EditFacts::AfterEdit::after_edit))]
     fn edited(self, alloc: Global, scope: &Scope, edit: &Edit) -> Result<Draft, Failed>
         ensures new { IfOk result (λ new. all_held new.list.items
             ≡ edited_in (all_held self.list.items) (scope_shown scope.now) (edit_shown edit.now)) }
@@ -133,7 +133,7 @@ impl Draft {
     }
 
     // After a change.
-    #[tactic(auto, unfolding(crate::specs::Changes::changed), using(crate::proofs::Edits::AfterEdit::unless_told))]
+    #[tactic(auto, unfolding(crate::specs::Changes::changed), using(crate::proofs::EditFacts::AfterEdit::unless_told))]
     pub(crate) fn changed(self, alloc: Global, change: &Change) -> Result<Draft, Failed>
         ensures new { IfOk result (λ new. changed (all_held self.list.items)
             (change_shown change.now) ≡ Ok (all_held new.list.items)) }

@@ -80,7 +80,7 @@ fn find_host(list: &[Held], text: &[u8]) -> Result<usize, HostFault>
 }
 
 // The UUID of the provider that a text names, and that of the root of its tree.
-#[tactic(auto, using(crate::proofs::Edits::Touching::host_found))]
+#[tactic(auto, using(crate::proofs::EditFacts::Touching::host_found))]
 fn find_tree(list: &[Held], text: &[u8]) -> Result<(Id, Id), ChangeKind>
     requires { AreRooted list.now }
     ensures id { result_map_both (λ p. p.0) (λ e. e) result ≡ host_id (all_held list.now) text.now }
@@ -137,7 +137,7 @@ fn touch_trees(alloc: Global, list: &[Held], aggregate: Id) -> Result<Touched, N
 }
 
 // Whom an edit touches.
-#[tactic(auto, using(crate::proofs::Edits::Touching::marked))]
+#[tactic(auto, using(crate::proofs::EditFacts::Touching::marked))]
 pub(crate) fn find_touched(alloc: Global, list: &[Held], scope: &Scope) -> Result<Touched, Failed>
     requires { AreRooted list.now }
     ensures touched { IfOk result (λ touched. map (is_marked touched) list.now

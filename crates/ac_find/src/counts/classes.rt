@@ -55,7 +55,7 @@ fn has_room_marked(cloud: &Cloud, marks: &[bool], ix: u32, need: &Need) -> bool
 }
 
 // How many of the marked providers have room for an amount of a class.
-#[tactic(auto, using(crate::proofs::Counting::ExplainedLemmas::count_more, crate::proofs::Counting::ExplainedLemmas::count_few))]
+#[tactic(auto, using(crate::proofs::CountFacts::ExplainedLemmas::count_more, crate::proofs::CountFacts::ExplainedLemmas::count_few))]
 fn count_room(cloud: &Cloud, marks: &[bool], need: &Need) -> u32
     requires { length marks.now ≡ length (providers_of cloud.now) }
     ensures { result ≡ count_of (providers_of cloud.now) (λ p. slice_index_or marks.now p false

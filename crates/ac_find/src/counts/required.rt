@@ -181,7 +181,7 @@ impl<'a> Unsuffixed<'a> {
     }
 
     // Those of them that are available at a root.
-    #[tactic(auto, using(crate::proofs::Counting::RequiredLemmas::serving_low))]
+    #[tactic(auto, using(crate::proofs::CountFacts::RequiredLemmas::serving_low))]
     pub(crate) fn at_root(&self, alloc: Global, root: u32) -> Result<Serving<'a>, NoMemory>
         requires { root < length (providers_of self.now.cloud.now) }
         ensures cloud { IfOk result (λ at. at.cloud ≡ self.now.cloud) }

@@ -29,7 +29,7 @@ pub struct Plan {
 }
 
 // The query of a record's flavor.
-#[tactic(auto, using(crate::proofs::Flavors::FlavorsRead::is_text, crate::proofs::Flavors::FlavorsRead::no_text))]
+#[tactic(auto, using(crate::proofs::FlavorFacts::FlavorsRead::is_text, crate::proofs::FlavorFacts::FlavorsRead::no_text))]
 fn read_query(alloc: Global, row: u32, text: &[u8], version: Version) -> Result<Query, AskRefusal>
     ensures ok { OnOk result (query_refused version row text.now ≡ None) }
     ensures asked { IfOk result (λ query. asked_of query ≡ asked_by version (pairs_of text.now)) }

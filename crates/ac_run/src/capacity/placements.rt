@@ -53,7 +53,7 @@ pub(crate) fn walk_all<'a>(
 }
 
 // The tokens of placements, or their names.
-#[tactic(auto, using(crate::proofs::Refused::Delivering::refused, ac_fill::proofs::Ordered::all_rest))]
+#[tactic(auto, using(crate::proofs::RefusalFacts::Delivering::refused, ac_fill::proofs::Ordered::all_rest))]
 fn write_placements<W: Sink>(
     alloc: Global,
     cloud: &Cloud,
@@ -138,7 +138,7 @@ fn sum_of(
 }
 
 // How many placements there are.
-#[tactic(auto, using(crate::proofs::Refused::Delivering::refused))]
+#[tactic(auto, using(crate::proofs::RefusalFacts::Delivering::refused))]
 fn write_sum<W: Sink>(
     alloc: Global,
     cloud: &Cloud,

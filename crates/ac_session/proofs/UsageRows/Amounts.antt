@@ -6,7 +6,7 @@ use Rattle.std.specs.List.{range_with_len}
 use Rattle.ac_base.specs.Quantities.{InventoryNumbers}
 use Rattle.ac_cloud.specs.Amounts.{entry_using, provider_using, with_amounts}
 use Rattle.ac_cloud.specs.World.{Provider, UsedInventory, provider_at}
-use Rattle.ac_session.proofs.Turning.Differing.{lines_using, using_same}
+use Rattle.ac_session.proofs.TurnFacts.Differing.{lines_using, using_same}
 use Rattle.ac_session.specs.Held.{unnamed}
 use Rattle.ac_session.specs.Laws.{providers_behind}
 use Rattle.ac_session.specs.Lines.{Given}

@@ -50,7 +50,7 @@ impl Room {
     }
 
     /// Takes so many bytes from the front.
-    #[tactic(auto, using(crate::proofs::Reads::Rooms::taken_off))]
+    #[tactic(auto, using(crate::proofs::ReadingFacts::Rooms::taken_off))]
     pub(super) fn take(&mut self, count: usize)
         requires { count ≤ length (held self.old) }
         ensures taken { taken self.new ≡ take count (held self.old) }

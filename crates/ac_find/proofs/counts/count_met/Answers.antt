@@ -1,5 +1,5 @@
 use Rattle.std.proofs.Common.{◌∙◌, sym}
-use Rattle.ac_find.proofs.Counting.ExplainedLemmas.{units_have}
+use Rattle.ac_find.proofs.CountFacts.ExplainedLemmas.{units_have}
 use Rattle.ac_find.proofs.counts.count_met.Goals as goal
 
 pub returns-then-not-has_slot_traits-clause-inventories : goal.returns-then-not-has_slot_traits-clause-inventories

@@ -3,7 +3,7 @@ use Rattle.std.specs.List.{list_any}
 use Rattle.std.proofs.lemmas.List.FromFn.{length-map-range_with_len}
 use Rattle.ac_query.specs.Shown.Queries.{asked_of}
 use Rattle.ac_cloud.specs.Cloud.CloudWorld.{providers_of}
-use Rattle.ac_find.proofs.Counting.ExplainedLemmas.{none_comes, served_more}
+use Rattle.ac_find.proofs.CountFacts.ExplainedLemmas.{none_comes, served_more}
 use Rattle.ac_find.proofs.counts.limit_slots.Goals as goal
 
 pub limit-requires-clause-rooms : goal.limit-requires-clause-rooms

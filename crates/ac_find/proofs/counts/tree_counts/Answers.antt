@@ -9,8 +9,8 @@ use Rattle.ac_cloud.specs.Cloud.CloudWorld.{providers_of}
 use Rattle.ac_find.specs.Explained.{has_each_slot, holds_required}
 use Rattle.ac_find.specs.Shown.Explained.{marked, served_roots}
 use Rattle.ac_rules.specs.Together.{takes_root}
-use Rattle.ac_find.proofs.Counting.ExplainedLemmas.{marked_map, served_none}
-use Rattle.ac_find.proofs.Counting.RequiredLemmas.{kept_roots}
+use Rattle.ac_find.proofs.CountFacts.ExplainedLemmas.{marked_map, served_none}
+use Rattle.ac_find.proofs.CountFacts.RequiredLemmas.{kept_roots}
 use Rattle.ac_prune.proofs.Roots.TreeLemmas.{few_providers}
 use Rattle.ac_find.proofs.counts.tree_counts.Goals as goal
 

@@ -6,7 +6,7 @@ use Rattle.std.proofs.lemmas.List.FromFn.{fill_by_all, get_or-map-range_with_len
 use Rattle.ac_cloud.specs.Cloud.CloudWorld.{providers_of}
 use Rattle.ac_query.specs.Shown.Groups.{need_entry}
 use Rattle.ac_find.specs.Missing.{somebody_there_has_class}
-use Rattle.ac_find.proofs.Wanting.FurthestLemmas.{class_more}
+use Rattle.ac_find.proofs.WantingFacts.FurthestLemmas.{class_more}
 use Rattle.ac_find.proofs.furthest.classes_of_nobody.Goals as goal
 
 pub loop-class-init : goal.loop-class-init

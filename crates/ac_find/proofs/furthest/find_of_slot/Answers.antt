@@ -7,7 +7,7 @@ use Rattle.ac_rules.specs.Placed.{slot_at}
 use Rattle.ac_find.specs.Furthest.{class_of_nobody, furthest}
 use Rattle.ac_find.specs.Shown.Furthest.{is_of_slot}
 use Rattle.ac_find.specs.declared.furthest.Wanting.{Wanting}
-use Rattle.ac_find.proofs.Wanting.LackingLemmas.{at_place}
+use Rattle.ac_find.proofs.WantingFacts.LackingLemmas.{at_place}
 use Rattle.ac_find.proofs.furthest.find_of_slot.Goals as goal
 
 pub note_wanting-requires-clause-places : goal.note_wanting-requires-clause-places

@@ -10,8 +10,8 @@ use Rattle.ac_find.specs.Lacking.{lack_at}
 use Rattle.ac_find.specs.Shown.Furthest.{is_of_slot, wanting_below}
 use Rattle.ac_find.specs.declared.lacks.Lack.{Lack}
 use Rattle.ac_find.specs.declared.furthest.Wanting.{Wanting}
-use Rattle.ac_find.proofs.Wanting.FurthestLemmas.{below_all, below_more, below_none, lack_numbers}
-use Rattle.ac_find.proofs.Wanting.LackingLemmas.{at_place}
+use Rattle.ac_find.proofs.WantingFacts.FurthestLemmas.{below_all, below_more, below_none, lack_numbers}
+use Rattle.ac_find.proofs.WantingFacts.LackingLemmas.{at_place}
 use Rattle.ac_find.proofs.furthest.find_wanting.Goals as goal
 
 pub loop-s-init : goal.loop-s-init

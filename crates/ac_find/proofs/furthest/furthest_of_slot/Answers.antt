@@ -8,7 +8,7 @@ use Rattle.ac_rules.specs.Placed.{slot_at}
 use Rattle.ac_prune.proofs.Roots.TreeLemmas.{few_providers}
 use Rattle.ac_find.specs.Furthest.{furthest}
 use Rattle.ac_find.specs.Shown.Furthest.{place_in}
-use Rattle.ac_find.proofs.Wanting.FurthestLemmas.{place_furthest}
+use Rattle.ac_find.proofs.WantingFacts.FurthestLemmas.{place_furthest}
 use Rattle.ac_find.proofs.furthest.furthest_of_slot.Goals as goal
 
 pub returns : goal.returns

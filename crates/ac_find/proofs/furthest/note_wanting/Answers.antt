@@ -2,7 +2,7 @@ use Rattle.std.proofs.Common.{◌≡◌, ◌∙◌, ◌<◌, ℕ, Option, None, 
 use Rattle.std.proofs.lemmas.List.{get_or-set_other, length-set}
 use Rattle.ac_find.specs.Shown.Furthest.{is_of_slot}
 use Rattle.ac_find.specs.declared.furthest.Wanting.{Wanting}
-use Rattle.ac_find.proofs.Wanting.LackingLemmas.{set_more}
+use Rattle.ac_find.proofs.WantingFacts.LackingLemmas.{set_more}
 use Rattle.ac_find.proofs.furthest.note_wanting.Goals as goal
 
 pub loop-r-preserved : goal.loop-r-preserved

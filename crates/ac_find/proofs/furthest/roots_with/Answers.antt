@@ -8,7 +8,7 @@ use Rattle.ac_prune.specs.Ahead.{hosts_of}
 use Rattle.ac_prune.proofs.Roots.RootLemmas.{hosts_low}
 use Rattle.ac_find.specs.Explained.{has_inventory}
 use Rattle.ac_find.specs.Missing.{somebody_there_has_class}
-use Rattle.ac_find.proofs.Counting.ExplainedLemmas.{reaches}
+use Rattle.ac_find.proofs.CountFacts.ExplainedLemmas.{reaches}
 use Rattle.ac_find.proofs.furthest.roots_with.Goals as goal
 
 pub limit-requires-clause-rooms : goal.limit-requires-clause-rooms

@@ -5,7 +5,7 @@ use Rattle.ac_cloud.specs.World.{is_available_at, provider_at}
 use Rattle.ac_cloud.specs.Cloud.CloudWorld.{providers_of}
 use Rattle.ac_query.specs.Shown.Groups.{need_entry}
 use Rattle.ac_find.specs.Explained.{has_inventory}
-use Rattle.ac_find.proofs.Counting.ExplainedLemmas.{any_there}
+use Rattle.ac_find.proofs.CountFacts.ExplainedLemmas.{any_there}
 use Rattle.ac_find.proofs.inventories.somebody_there_has_class.Goals as goal
 
 pub returns : goal.returns

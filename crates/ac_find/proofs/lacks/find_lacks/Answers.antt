@@ -7,7 +7,7 @@ use Rattle.ac_prune.specs.Fitting.{fits_at}
 use Rattle.ac_find.specs.Lacking.{lack_at}
 use Rattle.ac_find.specs.declared.lacks.Lack.{Lack}
 use Rattle.ac_prune.proofs.Search.OpenLemmas.{map_range_more}
-use Rattle.ac_find.proofs.Wanting.LackingLemmas.{at_place}
+use Rattle.ac_find.proofs.WantingFacts.LackingLemmas.{at_place}
 use Rattle.ac_find.proofs.lacks.find_lacks.Goals as goal
 
 pub bounds-fits-root : goal.bounds-fits-root

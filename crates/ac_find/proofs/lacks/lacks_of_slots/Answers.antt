@@ -10,7 +10,7 @@ use Rattle.ac_query.specs.Shown.Queries.{asked_of}
 use Rattle.ac_find.specs.Lacking.{first_unserved}
 use Rattle.ac_find.specs.declared.lacks.Lack.{Lack}
 use Rattle.ac_prune.proofs.Search.OpenLemmas.{map_range_more}
-use Rattle.ac_find.proofs.Wanting.LackingLemmas.{all_noted, slot_noted}
+use Rattle.ac_find.proofs.WantingFacts.LackingLemmas.{all_noted, slot_noted}
 use Rattle.ac_find.proofs.lacks.lacks_of_slots.Goals as goal
 
 pub loop-root-preserved : goal.loop-root-preserved

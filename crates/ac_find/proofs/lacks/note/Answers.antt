@@ -2,7 +2,7 @@ use Rattle.std.proofs.Common.{◌≡◌, ◌∙◌, ◌<◌, ℕ, None, length, 
 use Rattle.std.specs.Option.{option_or}
 use Rattle.std.proofs.lemmas.List.{get_or-set_other, length-set}
 use Rattle.ac_find.specs.Shown.Lacking.{lack_behind, tests_in}
-use Rattle.ac_find.proofs.Wanting.LackingLemmas.{set_more}
+use Rattle.ac_find.proofs.WantingFacts.LackingLemmas.{set_more}
 use Rattle.ac_find.proofs.lacks.note.Goals as goal
 
 pub loop-r-preserved : goal.loop-r-preserved

@@ -1,4 +1,4 @@
-use Rattle.ac_find.proofs.Counting.CountLaws.{roots_fall}
+use Rattle.ac_find.proofs.CountFacts.CountLaws.{roots_fall}
 use Rattle.ac_find.proofs.laws.roots_fall.Goals as goal
 
 pub returns : goal.returns

@@ -1,4 +1,4 @@
-use Rattle.ac_find.proofs.Wanting.LackLaws.{some_fits}
+use Rattle.ac_find.proofs.WantingFacts.LackLaws.{some_fits}
 use Rattle.ac_find.proofs.laws.some_fits.Goals as goal
 
 pub returns : goal.returns

@@ -6,7 +6,7 @@ use Rattle.ac_cloud.specs.World.{has_trait, is_available_at, provider_at}
 use Rattle.ac_cloud.specs.Cloud.CloudWorld.{providers_of}
 use Rattle.ac_query.specs.Shown.Queries.{asked_of}
 use Rattle.ac_find.specs.Explained.{serves_unsuffixed}
-use Rattle.ac_find.proofs.Counting.ExplainedLemmas.{any_there}
+use Rattle.ac_find.proofs.CountFacts.ExplainedLemmas.{any_there}
 use Rattle.ac_find.proofs.unheld.is_held.Goals as goal
 
 pub returns : goal.returns

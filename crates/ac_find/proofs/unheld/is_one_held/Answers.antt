@@ -7,7 +7,7 @@ use Rattle.ac_cloud.specs.Cloud.CloudWorld.{providers_of}
 use Rattle.ac_query.specs.Shown.Queries.{asked_of}
 use Rattle.ac_rules.specs.Own.{has_any}
 use Rattle.ac_find.specs.Explained.{serves_unsuffixed}
-use Rattle.ac_find.proofs.Counting.ExplainedLemmas.{any_there}
+use Rattle.ac_find.proofs.CountFacts.ExplainedLemmas.{any_there}
 use Rattle.ac_find.proofs.unheld.is_one_held.Goals as goal
 
 pub returns : goal.returns

@@ -6,7 +6,7 @@ use Rattle.ac_query.specs.Tokens.{ids_of}
 use Rattle.ac_rules.specs.Pages.{cut}
 use Rattle.ac_report.specs.Called.{lines_by}
 use Rattle.ac_run.specs.Answer.{page_lines}
-use Rattle.ac_run.proofs.Refused.Delivering.{breaks_off}
+use Rattle.ac_run.proofs.RefusalFacts.Delivering.{breaks_off}
 use Rattle.ac_run.proofs.answer.write_lines.Goals as goal
 
 pub returns-in_err-write_tokens : goal.returns-in_err-write_tokens

@@ -7,7 +7,7 @@ use Rattle.ac_rules.specs.Pages.{cut}
 use Rattle.ac_report.specs.ListRows.{list_text}
 use Rattle.ac_report.specs.Texts.{shown_providers}
 use Rattle.ac_run.specs.Answer.{page_rows}
-use Rattle.ac_run.proofs.Refused.Delivering.{breaks_off}
+use Rattle.ac_run.proofs.RefusalFacts.Delivering.{breaks_off}
 use Rattle.ac_run.proofs.answer.write_rows.Goals as goal
 
 pub returns-in_err-write_list : goal.returns-in_err-write_list

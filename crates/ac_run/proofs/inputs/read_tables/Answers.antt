@@ -1,6 +1,6 @@
 use Rattle.ac_base.proofs.Small.{handed_on}
 use Rattle.ac_tables.specs.declared.fault.Table.TheVariants as table
-use Rattle.ac_run.proofs.Drains.Drained.{explains, small, long, small_there, long_there, few_here, few_there, first, second, third, fourth, fifth, none}
+use Rattle.ac_run.proofs.DrainFacts.Drained.{explains, small, long, small_there, long_there, few_here, few_there, first, second, third, fourth, fifth, none}
 use Rattle.ac_run.proofs.inputs.read_tables.Goals as goal
 
 pub returns-in_err-drain_table-clause-fault : goal.returns-in_err-drain_table-clause-fault

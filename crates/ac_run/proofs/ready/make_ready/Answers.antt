@@ -3,7 +3,7 @@ use Rattle.ac_cloud.specs.Cloud.CloudWorld.{world_of}
 use Rattle.ac_run.specs.Answer.{remedy_in, with_detail}
 use Rattle.ac_run.specs.Notes.{told_behind}
 use Rattle.ac_run.specs.Tasks.{task_of}
-use Rattle.ac_run.proofs.Refused.Attempted.{asked_told}
+use Rattle.ac_run.proofs.RefusalFacts.Attempted.{asked_told}
 use Rattle.ac_run.proofs.ready.make_ready.Goals as goal
 
 pub returns-in-Ok-note_if_told-clause-answer : goal.returns-in-Ok-note_if_told-clause-answer

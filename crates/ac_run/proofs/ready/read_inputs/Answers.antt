@@ -1,7 +1,7 @@
 use Rattle.ac_run.specs.Tasks.{changes_shown, detail_shown}
 use Rattle.ac_cloud.specs.Cloud.CloudWorld.{world_of}
 use Rattle.ac_run.specs.Feeds.Draining.{texts_shown}
-use Rattle.ac_run.proofs.Refused.Attempted.{change_told, fault_told, read_told, refused_status}
+use Rattle.ac_run.proofs.RefusalFacts.Attempted.{change_told, fault_told, read_told, refused_status}
 use Rattle.ac_run.proofs.ready.read_inputs.Goals as goal
 
 pub returns-in-Err-clause-fault : goal.returns-in-Err-clause-fault

@@ -1,5 +1,5 @@
 use Rattle.ac_run.specs.Feeds.Draining.{texts_shown}
-use Rattle.ac_run.proofs.Drains.FewBytes.{are_few}
+use Rattle.ac_run.proofs.DrainFacts.FewBytes.{are_few}
 use Rattle.ac_run.proofs.ready.sources_of.Goals as goal
 
 pub returns-clause-few : goal.returns-clause-few

@@ -10,7 +10,7 @@ use Rattle.ac_run.specs.Refusals.{line_told, status_told}
 use Rattle.ac_run.specs.Run.{IsWritten}
 use Rattle.ac_run.specs.Stops.{StopsIn, TaskMayStop}
 use Rattle.ac_run.specs.Tasks.{Task, changes_shown, task_of}
-use Rattle.ac_run.proofs.Refused.Attempted.{answer_asked, as_answer, asked_none, ends_over, in_answer, told_asked}
+use Rattle.ac_run.proofs.RefusalFacts.Attempted.{answer_asked, as_answer, asked_none, ends_over, in_answer, told_asked}
 use Rattle.ac_run.proofs.run_job.answer_job.Goals as goal
 
 pub returns-in_err-cloud-clause-fault : goal.returns-in_err-cloud-clause-fault

@@ -12,7 +12,7 @@ use Rattle.ac_run.specs.Wanted.Named.{AreNamed, Naming}
 use Rattle.ac_run.specs.declared.refusal.NamesRefusal.{NamesRefusal}
 use Rattle.ac_tables.specs.declared.called.Called as rust
 use Rattle.ac_tables.specs.Called.{called_shown}
-use Rattle.ac_run.proofs.Refused.Attempted.{answer_asked, asked_is, names_so, table_told, told_asked}
+use Rattle.ac_run.proofs.RefusalFacts.Attempted.{answer_asked, asked_is, names_so, table_told, told_asked}
 use Rattle.ac_run.proofs.run_job.answer_named.Given as given
 use Rattle.ac_run.proofs.run_job.answer_named.Goals as goal
 

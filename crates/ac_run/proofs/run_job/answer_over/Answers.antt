@@ -4,7 +4,7 @@ use Rattle.ac_cloud.specs.Cloud.CloudWorld.{world_of}
 use Rattle.ac_run.specs.Answer.{answer_within, remedy_in, with_detail}
 use Rattle.ac_run.specs.Tasks.{task_of}
 use Rattle.ac_run.specs.Wanted.{answer_to}
-use Rattle.ac_run.proofs.Refused.Attempted.{part_so, written_so}
+use Rattle.ac_run.proofs.RefusalFacts.Attempted.{part_so, written_so}
 use Rattle.ac_run.proofs.run_job.answer_over.Goals as goal
 
 pub returns-in-Err-WriteFailed-clause-fault : goal.returns-in-Err-WriteFailed-clause-fault

@@ -1,5 +1,5 @@
 use Rattle.ac_run.specs.Tasks.{detail_shown}
-use Rattle.ac_run.proofs.Refused.Attempted.{names_told}
+use Rattle.ac_run.proofs.RefusalFacts.Attempted.{names_told}
 use Rattle.ac_run.proofs.run_job.refuse_names.Goals as goal
 
 pub returns : goal.returns

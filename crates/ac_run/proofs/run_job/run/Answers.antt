@@ -4,7 +4,7 @@ use Rattle.ac_run.specs.Answer.{answer}
 use Rattle.ac_run.specs.Refusals.{line_told, status_told}
 use Rattle.ac_run.specs.Stops.{TaskMayStop}
 use Rattle.ac_run.specs.Tasks.{task_of}
-use Rattle.ac_run.proofs.Refused.Told.{ends_answered, ends_high, ends_memory, ends_output, ends_part, ends_query, ends_stopped, ends_tables, ends_tries, ends_with}
+use Rattle.ac_run.proofs.RefusalFacts.Told.{ends_answered, ends_high, ends_memory, ends_output, ends_part, ends_query, ends_stopped, ends_tables, ends_tries, ends_with}
 use Rattle.ac_run.proofs.run_job.run.Goals as goal
 
 pub returns-in-Err-clause-answered : goal.returns-in-Err-clause-answered

@@ -25,7 +25,7 @@ fn same(alloc: Global, text: &[u8]) -> Result<Vec<u8>, NoMemory>
 }
 
 // A query with UUIDs in place of names; one that is no text stays.
-#[tactic(auto, using(crate::proofs::Flavors::FlavorsNamed::named_bytes, crate::proofs::Flavors::FlavorsNamed::named_text))]
+#[tactic(auto, using(crate::proofs::FlavorFacts::FlavorsNamed::named_bytes, crate::proofs::FlavorFacts::FlavorsNamed::named_text))]
 fn query_named(alloc: Global, naming: &Naming<'_>, query: &[u8]) -> Result<Vec<u8>, PairFault>
     ensures text { IfOk result (λ text. (called : named.Naming) → AreNamed called naming.now
         → query_named called query.now ≡ Ok text.items) }

@@ -1,8 +1,8 @@
 use Rattle.std.proofs.lemmas.Result.{IfOk-at_ok}
 use Rattle.ac_base.proofs.Leaving.{part_of_second}
-use Rattle.ac_session.proofs.Answers.Escaped.{part_any}
-use Rattle.ac_session.proofs.Answers.Stood.{first_of_first}
-use Rattle.ac_session.proofs.Answers.Written.{first_taken}
+use Rattle.ac_session.proofs.AnswerFacts.Escaped.{part_any}
+use Rattle.ac_session.proofs.AnswerFacts.Stood.{first_of_first}
+use Rattle.ac_session.proofs.AnswerFacts.Written.{first_taken}
 use Rattle.ac_session.specs.Frames.{lines_written}
 use Rattle.ac_session.specs.Standing.{end_told}
 use Rattle.ac_session.proofs.endings.end_answer.Goals as goal

@@ -2,7 +2,7 @@ use Rattle.std.proofs.Common.{◌∙◌, Err, Some, ap, ap₂, sym}
 use Rattle.std.proofs.lemmas.Result.{IfErr-at_err, IfOk-at_ok}
 use Rattle.ac_base.specs.Devices.{TakesPart}
 use Rattle.ac_run.specs.Run.{IsWritten}
-use Rattle.ac_session.proofs.Answers.Written.{gives_weaker}
+use Rattle.ac_session.proofs.AnswerFacts.Written.{gives_weaker}
 use Rattle.ac_session.specs.Frames.{end_line}
 use Rattle.ac_session.proofs.endings.given.Goals as goal
 

@@ -1,7 +1,7 @@
 use Rattle.std.proofs.Common.{◌∙◌, List, [], ℕ, ◌++◌, ap, subst}
 use Rattle.std.specs.Prelude.{codes}
 use Rattle.ac_base.specs.Writing.{Pushes}
-use Rattle.ac_session.proofs.Answers.Written.{faulted_told, refused_told, stopped_told, unnamed_told}
+use Rattle.ac_session.proofs.AnswerFacts.Written.{faulted_told, refused_told, stopped_told, unnamed_told}
 use Rattle.ac_session.proofs.endings.push_ending.Goals as goal
 
 pub returns-in-Refused : goal.returns-in-Refused

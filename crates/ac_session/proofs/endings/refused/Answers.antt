@@ -1,7 +1,7 @@
 use Rattle.std.proofs.Common.{Some, ap, arith, sym}
 use Rattle.ac_base.proofs.Leaving.{part_none}
-use Rattle.ac_session.proofs.Turning.Turned.{not_done, refused_world}
-use Rattle.ac_session.proofs.Answers.Written.{ends_so}
+use Rattle.ac_session.proofs.TurnFacts.Turned.{not_done, refused_world}
+use Rattle.ac_session.proofs.AnswerFacts.Written.{ends_so}
 use Rattle.ac_session.specs.Frames.{end_line}
 use Rattle.ac_session.specs.declared.endings.Ending.TheVariants as ending
 use Rattle.ac_session.proofs.endings.refused.Goals as goal

@@ -3,8 +3,8 @@ use Rattle.ac_base.proofs.Leaving.{part_none}
 use Rattle.ac_run.specs.Answer.{refused}
 use Rattle.ac_run.specs.Lines.{names_line}
 use Rattle.ac_run.specs.Refusals.{status_of_names}
-use Rattle.ac_session.proofs.Turning.ByNames.{told_err}
-use Rattle.ac_session.proofs.Answers.Written.{ends_so}
+use Rattle.ac_session.proofs.TurnFacts.ByNames.{told_err}
+use Rattle.ac_session.proofs.AnswerFacts.Written.{ends_so}
 use Rattle.ac_session.specs.Turns.{output_of, turn_told}
 use Rattle.ac_session.specs.declared.endings.Ending.TheVariants as ending
 use Rattle.ac_session.proofs.endings.unnamed.Goals as goal

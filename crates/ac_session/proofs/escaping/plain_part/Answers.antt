@@ -1,5 +1,5 @@
 use Rattle.std.proofs.Common.{◌∙◌, sym}
-use Rattle.ac_session.proofs.Answers.Escaped.{further, plain_end, plain_on, plain_stop}
+use Rattle.ac_session.proofs.AnswerFacts.Escaped.{further, plain_end, plain_on, plain_stop}
 use Rattle.ac_session.proofs.escaping.plain_part.Goals as goal
 
 pub returns-then-starts_marked-clause-part : goal.returns-then-starts_marked-clause-part

@@ -1,4 +1,4 @@
-use Rattle.ac_session.proofs.Turning.Turned.{asking_leaves_all}
+use Rattle.ac_session.proofs.TurnFacts.Turned.{asking_leaves_all}
 use Rattle.ac_session.proofs.laws.asking_leaves_all.Goals as goal
 
 pub returns : goal.returns

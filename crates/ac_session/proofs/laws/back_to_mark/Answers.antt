@@ -1,4 +1,4 @@
-use Rattle.ac_session.proofs.Turning.Differing.{back_to_mark, lines_using, using_same}
+use Rattle.ac_session.proofs.TurnFacts.Differing.{back_to_mark, lines_using, using_same}
 use Rattle.ac_session.proofs.UsageRows.Accepted.{each_accepted}
 use Rattle.ac_session.proofs.UsageRows.Amounts.{session_stated}
 use Rattle.ac_session.proofs.UsageRows.GoOn.{classes_in_order}

@@ -1,4 +1,4 @@
-use Rattle.ac_session.proofs.Turning.Turned.{claim_turns_narrow}
+use Rattle.ac_session.proofs.TurnFacts.Turned.{claim_turns_narrow}
 use Rattle.ac_session.proofs.laws.claim_turns_narrow.Goals as goal
 
 pub returns : goal.returns

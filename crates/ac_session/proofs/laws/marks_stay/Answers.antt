@@ -1,4 +1,4 @@
-use Rattle.ac_session.proofs.Turning.Differing.{marks_stay}
+use Rattle.ac_session.proofs.TurnFacts.Differing.{marks_stay}
 use Rattle.ac_session.proofs.laws.marks_stay.Goals as goal
 
 pub returns : goal.returns

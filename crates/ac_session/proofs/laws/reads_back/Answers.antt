@@ -9,7 +9,7 @@ use Rattle.ac_session.specs.Laws.{LacksBlanks, LacksNewlines}
 use Rattle.ac_session.specs.Lines.{behind_line, first_line, is_newline, newline}
 use Rattle.ac_session.specs.Questions.{is_blank, words_of}
 use Rattle.ac_session.proofs.laws.reads_back.Goals as goal
-use Rattle.ac_session.proofs.Reads.Leading.Firsts.{after_later, place_later}
+use Rattle.ac_session.proofs.ReadingFacts.Leading.Firsts.{after_later, place_later}
 
 words_back : (first : List ℕ) (others : List (List ℕ)) → All LacksBlanks (first ∷ others) → words_of (join_with_byte 32 (first ∷ others)) ≡ first ∷ others
 words_back first [] lacks = slice_split_none is_blank first (All-head LacksBlanks first [] lacks)

@@ -18,7 +18,7 @@ use Rattle.ac_rules.specs.declared.verdict.Verdict.{Verdict}
 use Rattle.ac_rules.specs.declared.verdict.Verdict.TheVariants as verdict
 use Rattle.ac_run.specs.Answer.{Outcome, Says, past_query, told, written}
 use Rattle.ac_run.specs.Wanted.Given.{token_refusal}
-use Rattle.ac_session.proofs.Turning.Turned.{past_read}
+use Rattle.ac_session.proofs.TurnFacts.Turned.{past_read}
 use Rattle.ac_session.specs.Laws.{ReleaseTurnUndoes}
 use Rattle.ac_session.specs.Turns.{claim_line, claim_of, claim_said, claim_turn, places_named, placed_by, release_line, release_of, release_said, release_turn, settles, world_after}
 use Rattle.ac_session.proofs.laws.release_turn_undoes.Goals as goal

@@ -1,6 +1,6 @@
 use Rattle.std.proofs.Common.{◌∙◌, ◌+◌, ap, option_map, position, sym}
 use Rattle.ac_session.specs.Lines.{is_newline}
-use Rattle.ac_session.proofs.Reads.Leading.Firsts.{position_behind}
+use Rattle.ac_session.proofs.ReadingFacts.Leading.Firsts.{position_behind}
 use Rattle.ac_session.proofs.lines.newline_behind.Goals as goal
 
 pub returns-in-Some : goal.returns-in-Some

@@ -1,5 +1,5 @@
 use Rattle.std.proofs.Common.{◌∙◌, sym}
-use Rattle.ac_session.proofs.Reads.Cuts.{asked_as_bytes, asked_as_text}
+use Rattle.ac_session.proofs.ReadingFacts.Cuts.{asked_as_bytes, asked_as_text}
 use Rattle.ac_session.proofs.questions.read_question.Goals as goal
 
 pub returns-in-Ok : goal.returns-in-Ok

@@ -4,7 +4,7 @@ use Rattle.std.specs.Prelude.{OnOk}
 use Rattle.std.specs.Option.{option_map}
 use Rattle.std.specs.Io.KnownBytes.{Appends}
 use Rattle.ac_cloud.specs.Cloud.CloudWorld.{world_of}
-use Rattle.ac_session.proofs.Answers.Stood.{with_none}
+use Rattle.ac_session.proofs.AnswerFacts.Stood.{with_none}
 use Rattle.ac_session.specs.Held.{Held, unnamed}
 use Rattle.ac_session.specs.Lines.{most_passed}
 use Rattle.ac_session.specs.Reading.{left}

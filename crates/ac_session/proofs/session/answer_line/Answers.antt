@@ -1,6 +1,6 @@
-use Rattle.ac_session.proofs.Turning.Differing.{known_behind}
+use Rattle.ac_session.proofs.TurnFacts.Differing.{known_behind}
 use Rattle.std.proofs.lemmas.Result.{IfOk-at_ok}
-use Rattle.ac_session.proofs.Answers.Stood.{end_given, given_there, line_part, line_stands, with_none}
+use Rattle.ac_session.proofs.AnswerFacts.Stood.{end_given, given_there, line_part, line_stands, with_none}
 use Rattle.ac_session.specs.Held.{held_of}
 use Rattle.ac_session.specs.Turns.Named.{terms_of}
 use Rattle.ac_session.proofs.session.answer_line.Goals as goal

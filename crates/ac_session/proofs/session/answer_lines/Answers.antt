@@ -1,5 +1,5 @@
 use Rattle.std.proofs.Common.{arith}
-use Rattle.ac_session.proofs.Answers.Stood.{first_whole, stands_end, stands_first, stands_on, stands_part, still_few, with_weaker}
+use Rattle.ac_session.proofs.AnswerFacts.Stood.{first_whole, stands_end, stands_first, stands_on, stands_part, still_few, with_weaker}
 use Rattle.ac_session.specs.Held.{held_of}
 use Rattle.ac_session.specs.Turns.Named.{terms_of}
 use Rattle.ac_session.proofs.session.answer_lines.Goals as goal

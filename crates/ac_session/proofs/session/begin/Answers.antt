@@ -1,6 +1,6 @@
 use Rattle.ac_cloud.specs.Cloud.CloudWorld.{world_of}
 use Rattle.ac_run.specs.Tasks.{changes_shown, detail_shown}
-use Rattle.ac_session.proofs.Answers.Ended.{names_end, table_so}
+use Rattle.ac_session.proofs.AnswerFacts.Ended.{names_end, table_so}
 use Rattle.ac_session.specs.Sessions.{past_called}
 use Rattle.ac_session.proofs.session.begin.Goals as goal
 

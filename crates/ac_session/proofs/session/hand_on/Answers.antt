@@ -2,7 +2,7 @@ use Rattle.std.proofs.Common.{◌≡◌, ◌≤◌, ℕ, Err, ap, arith}
 use Rattle.ac_base.specs.Devices.{Rises}
 use Rattle.std.proofs.lemmas.Result.{IfErr-at_err}
 use Rattle.ac_base.proofs.HandedOn.{later_rise}
-use Rattle.ac_session.proofs.Answers.Written.{answers_begun, answers_given}
+use Rattle.ac_session.proofs.AnswerFacts.Written.{answers_begun, answers_given}
 use Rattle.ac_session.specs.declared.endings.AnswerFault.TheVariants as fault
 use Rattle.ac_session.specs.Held.{held_of}
 use Rattle.ac_session.specs.Turns.Named.{terms_of}

@@ -1,8 +1,8 @@
 use Rattle.std.proofs.Common.{◌∙◌, ap, sym, Err}
 use Rattle.ac_cloud.specs.Cloud.CloudWorld.{world_of}
 use Rattle.std.proofs.lemmas.Result.{IfOk-at_ok}
-use Rattle.ac_session.proofs.Answers.Ended.{is_held, memory_is, output_is, stop_ends, stops_by_device, unread_is}
-use Rattle.ac_session.proofs.Answers.Stood.{with_weaker}
+use Rattle.ac_session.proofs.AnswerFacts.Ended.{is_held, memory_is, output_is, stop_ends, stops_by_device, unread_is}
+use Rattle.ac_session.proofs.AnswerFacts.Stood.{with_weaker}
 use Rattle.ac_session.specs.Held.{unnamed}
 use Rattle.ac_session.specs.Turns.Named.{table_in, terms_with}
 use Rattle.ac_session.proofs.session.hold.Goals as goal

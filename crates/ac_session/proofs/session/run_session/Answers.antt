@@ -8,7 +8,7 @@ use Rattle.ac_run.specs.Run.{IsAnswered}
 use Rattle.ac_session.specs.Held.{unnamed}
 use Rattle.ac_session.specs.Tries.{WithStops}
 use Rattle.ac_session.specs.Turns.Named.{terms_with}
-use Rattle.ac_session.proofs.Answers.Ended.{answered_whole, answered_with, not_eight, not_six, part_whole, part_with, refusal_ends, refused_part, refused_whole, refused_with, unread, wanting}
+use Rattle.ac_session.proofs.AnswerFacts.Ended.{answered_whole, answered_with, not_eight, not_six, part_whole, part_with, refusal_ends, refused_part, refused_whole, refused_with, unread, wanting}
 use Rattle.ac_session.proofs.session.run_session.Goals as goal
 
 -- ---- the tables are refused

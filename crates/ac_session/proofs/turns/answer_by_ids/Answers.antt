@@ -1,6 +1,6 @@
 use Rattle.std.proofs.Common.{refl}
-use Rattle.ac_session.proofs.Turning.Named.{all_stays}
-use Rattle.ac_session.proofs.Answers.Written.{ends_so, turn_same}
+use Rattle.ac_session.proofs.TurnFacts.Named.{all_stays}
+use Rattle.ac_session.proofs.AnswerFacts.Written.{ends_so, turn_same}
 use Rattle.ac_session.proofs.turns.answer_by_ids.Goals as goal
 
 pub returns-in-Job : goal.returns-in-Job

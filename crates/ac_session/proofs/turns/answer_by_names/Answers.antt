@@ -1,7 +1,7 @@
 use Rattle.std.proofs.Common.{◌≡◌, ◌∙◌, List, Ok, Option, Result, ℕ, ap, subst, sym}
 use Rattle.ac_run.specs.Naming.{TellsNames, naming_in}
 use Rattle.ac_run.specs.declared.refusal.NamesRefusal.{NamesRefusal}
-use Rattle.ac_session.proofs.Answers.Written.{turn_weaker}
+use Rattle.ac_session.proofs.AnswerFacts.Written.{turn_weaker}
 use Rattle.ac_session.specs.Held.{held_of}
 use Rattle.ac_session.specs.Questions.{Asked, asked_in}
 use Rattle.ac_session.specs.Standing.{TakesTurn}

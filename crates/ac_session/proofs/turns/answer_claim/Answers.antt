@@ -2,8 +2,8 @@ use Rattle.std.proofs.Common.{arith, ◌∙◌, None, Some, ap, refl, sym}
 use Rattle.std.specs.Option.{option_map}
 use Rattle.ac_cloud.specs.Cloud.CloudWorld.{providers_of, world_of}
 use Rattle.ac_query.specs.Shown.Queries.{asked_of}
-use Rattle.ac_session.proofs.Turning.Turned.{claim_read, claimed_so}
-use Rattle.ac_session.proofs.Answers.Written.{turn_whole}
+use Rattle.ac_session.proofs.TurnFacts.Turned.{claim_read, claimed_so}
+use Rattle.ac_session.proofs.AnswerFacts.Written.{turn_whole}
 use Rattle.ac_session.specs.Turns.{claim_line, claim_turn}
 use Rattle.ac_session.proofs.turns.answer_claim.Goals as goal
 

@@ -1,8 +1,8 @@
 use Rattle.std.proofs.Common.{arith, None, false, refl}
 use Rattle.ac_cloud.specs.Cloud.CloudWorld.{providers_of}
 use Rattle.ac_run.specs.Answer.{fills_by}
-use Rattle.ac_session.proofs.Turning.Turned.{query_refused}
-use Rattle.ac_session.proofs.Answers.Written.{turn_weaker}
+use Rattle.ac_session.proofs.TurnFacts.Turned.{query_refused}
+use Rattle.ac_session.proofs.AnswerFacts.Written.{turn_weaker}
 use Rattle.ac_session.specs.Turns.{fill_turn}
 use Rattle.ac_session.specs.Turns.Named.{are_named, terms_of}
 use Rattle.ac_session.proofs.turns.answer_fill.Goals as goal

@@ -5,8 +5,8 @@ use Rattle.ac_run.specs.Answer.{Outcome, answer_in}
 use Rattle.ac_run.specs.Tasks.{changes_shown, task_of}
 use Rattle.ac_run.specs.Wanted.{answer_to}
 use Rattle.ac_session.specs.Standing.{IsRefusal}
-use Rattle.ac_session.proofs.Turning.Turned.{delivers_stopped, not_refused, wanted_refused}
-use Rattle.ac_session.proofs.Answers.Written.{gives_weaker}
+use Rattle.ac_session.proofs.TurnFacts.Turned.{delivers_stopped, not_refused, wanted_refused}
+use Rattle.ac_session.proofs.AnswerFacts.Written.{gives_weaker}
 use Rattle.ac_session.proofs.turns.answer_job.Goals as goal
 
 pub returns-in-Ok : goal.returns-in-Ok

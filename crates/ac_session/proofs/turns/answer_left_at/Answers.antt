@@ -1,8 +1,8 @@
 use Rattle.std.proofs.Common.{◌≡◌, ◌∙◌, [], Ok, Err, ap, arith, refl, sym}
 use Rattle.ac_cloud.specs.Cloud.CloudWorld.{providers_of, world_of}
 use Rattle.ac_cloud.specs.Cloud.Hosts.{host_of}
-use Rattle.ac_session.proofs.Turning.Turned.{delivers_stopped}
-use Rattle.ac_session.proofs.Answers.Written.{gives_weaker}
+use Rattle.ac_session.proofs.TurnFacts.Turned.{delivers_stopped}
+use Rattle.ac_session.proofs.AnswerFacts.Written.{gives_weaker}
 use Rattle.ac_session.specs.LeftRows.{left_answer}
 use Rattle.ac_session.proofs.turns.answer_left_at.Goals as goal
 

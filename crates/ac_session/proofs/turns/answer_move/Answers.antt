@@ -2,8 +2,8 @@ use Rattle.std.proofs.Common.{◌∙◌, None, Some, ap, arith, refl, sym}
 use Rattle.std.specs.Option.{option_map}
 use Rattle.ac_cloud.specs.Cloud.CloudWorld.{providers_of, world_of}
 use Rattle.ac_query.specs.Shown.Queries.{asked_of}
-use Rattle.ac_session.proofs.Turning.Turned.{move_read, move_refused, moved_so}
-use Rattle.ac_session.proofs.Answers.Written.{turn_whole}
+use Rattle.ac_session.proofs.TurnFacts.Turned.{move_read, move_refused, moved_so}
+use Rattle.ac_session.proofs.AnswerFacts.Written.{turn_whole}
 use Rattle.ac_session.specs.Turns.{move_line, move_turn}
 use Rattle.ac_session.proofs.turns.answer_move.Goals as goal
 

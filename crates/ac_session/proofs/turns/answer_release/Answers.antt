@@ -2,8 +2,8 @@ use Rattle.std.proofs.Common.{arith, ◌∙◌, None, Some, ap, refl, sym}
 use Rattle.std.specs.Option.{option_map}
 use Rattle.ac_cloud.specs.Cloud.CloudWorld.{providers_of, world_of}
 use Rattle.ac_query.specs.Shown.Queries.{asked_of}
-use Rattle.ac_session.proofs.Turning.Turned.{release_read, released_so}
-use Rattle.ac_session.proofs.Answers.Written.{turn_whole}
+use Rattle.ac_session.proofs.TurnFacts.Turned.{release_read, released_so}
+use Rattle.ac_session.proofs.AnswerFacts.Written.{turn_whole}
 use Rattle.ac_session.specs.Turns.{release_line, release_turn}
 use Rattle.ac_session.proofs.turns.answer_release.Goals as goal
 

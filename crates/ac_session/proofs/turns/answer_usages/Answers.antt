@@ -1,5 +1,5 @@
-use Rattle.ac_session.proofs.Turning.Turned.{delivers_stopped}
-use Rattle.ac_session.proofs.Answers.Written.{gives_weaker}
+use Rattle.ac_session.proofs.TurnFacts.Turned.{delivers_stopped}
+use Rattle.ac_session.proofs.AnswerFacts.Written.{gives_weaker}
 use Rattle.ac_session.proofs.turns.answer_usages.Goals as goal
 
 pub returns : goal.returns

@@ -2,8 +2,8 @@ use Rattle.std.proofs.Common.{◌∙◌, ℕ, Err, None, Option, Some, [], ap, f
 use Rattle.ac_cloud.specs.Cloud.CloudWorld.{world_of}
 use Rattle.ac_fill.specs.Filled.{filled}
 use Rattle.ac_query.specs.Shown.Queries.{asked_of}
-use Rattle.ac_session.proofs.Turning.Turned.{filled_world}
-use Rattle.ac_session.proofs.Answers.Written.{gives_weaker, stopped_behind}
+use Rattle.ac_session.proofs.TurnFacts.Turned.{filled_world}
+use Rattle.ac_session.proofs.AnswerFacts.Written.{gives_weaker, stopped_behind}
 use Rattle.ac_run.specs.Answer.{fills_by}
 use Rattle.ac_run.specs.Outputs.{fill_status}
 use Rattle.ac_session.specs.Frames.{end_line}

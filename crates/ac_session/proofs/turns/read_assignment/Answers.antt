@@ -1,4 +1,4 @@
-use Rattle.ac_session.proofs.Turning.Turned.{past_read}
+use Rattle.ac_session.proofs.TurnFacts.Turned.{past_read}
 use Rattle.ac_session.proofs.turns.read_assignment.Goals as goal
 
 pub returns-clause-said : goal.returns-clause-said

@@ -3,7 +3,7 @@ use Rattle.std.specs.Option.{option_and_then}
 use Rattle.ac_cloud.specs.Cloud.CloudWorld.{providers_of}
 use Rattle.ac_query.specs.Tokens.{ids_of}
 use Rattle.ac_rules.specs.Located.{places_of}
-use Rattle.ac_session.proofs.Turning.Turned.{list_providers, list_slots}
+use Rattle.ac_session.proofs.TurnFacts.Turned.{list_providers, list_slots}
 use Rattle.ac_session.proofs.turns.read_places.Goals as goal
 
 pub returns-in-Ok-clause-list : goal.returns-in-Ok-clause-list

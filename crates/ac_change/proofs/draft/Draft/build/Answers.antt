@@ -1,7 +1,7 @@
 use Rattle.std.proofs.Common.{◌≡◌, ◌∙◌, arith, ap, length, map, option_and_then, subst, sym}
 use Rattle.std.proofs.lemmas.List.{length-map}
 use Rattle.ac_cloud.specs.Cloud.Places.{AreParents, rank}
-use Rattle.ac_change.proofs.Forest.Built.{aggregates_built, aggregates_counted, classes_built, entries_counted, few_built, forest_built, known_built, listed_here, many_built, providers_built, sized_built, sizes_built, traits_built, traits_counted}
+use Rattle.ac_change.proofs.ForestFacts.Built.{aggregates_built, aggregates_counted, classes_built, entries_counted, few_built, forest_built, known_built, listed_here, many_built, providers_built, sized_built, sizes_built, traits_built, traits_counted}
 use Rattle.ac_change.proofs.draft.Draft.build.Goals as goal
 use Rattle.ac_change.proofs.draft.Draft.build.Goals.{In_ok-ids, In_ok-parents}
 

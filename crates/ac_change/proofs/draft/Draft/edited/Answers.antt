@@ -4,7 +4,7 @@ use Rattle.ac_change.specs.Changes.{is_touched, scope_fault}
 use Rattle.ac_change.specs.Drafts.{all_held}
 use Rattle.ac_change.specs.Marked.{is_marked}
 use Rattle.ac_change.specs.Shown.{edit_shown, scope_shown}
-use Rattle.ac_change.proofs.Edits.AfterEdit.{edited_is, fault_none, fault_spoilt, tells_scope}
+use Rattle.ac_change.proofs.EditFacts.AfterEdit.{edited_is, fault_none, fault_spoilt, tells_scope}
 use Rattle.ac_change.proofs.draft.Draft.edited.Goals as goal
 
 pub returns-in_err-touched-clause-fault : goal.returns-in_err-touched-clause-fault

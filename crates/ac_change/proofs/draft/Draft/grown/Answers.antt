@@ -2,7 +2,7 @@ use Rattle.std.proofs.Common.{◌≡◌, ◌∙◌, ◌*◌, ◌+◌, ◌≤◌,
 use Rattle.ac_change.specs.Changes.{with_copies}
 use Rattle.ac_change.specs.Copies.{AreBelow}
 use Rattle.ac_change.specs.Drafts.{all_held}
-use Rattle.ac_change.proofs.Copying.Copies.{added_fault, added_is, below_held, few_held, most_fits, not_too_many, sum_held}
+use Rattle.ac_change.proofs.CopyFacts.Copies.{added_fault, added_is, below_held, few_held, most_fits, not_too_many, sum_held}
 use Rattle.ac_change.proofs.draft.Draft.grown.Goals as goal
 
 pub overflow_mul-more : goal.overflow_mul-more

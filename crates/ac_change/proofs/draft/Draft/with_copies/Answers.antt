@@ -1,7 +1,7 @@
 use Rattle.std.proofs.Common.{◌≡◌, ◌+◌, ◌*◌, ℕ, arith, length, subst}
 use Rattle.ac_change.specs.Copies.{AreBelow}
 use Rattle.ac_change.specs.Drafts.{all_held}
-use Rattle.ac_change.proofs.Copying.Copies.{draft_below, draft_few, draft_more}
+use Rattle.ac_change.proofs.CopyFacts.Copies.{draft_below, draft_few, draft_more}
 use Rattle.ac_change.proofs.draft.Draft.with_copies.Goals as goal
 
 pub with_copy-requires-clause-below : goal.with_copy-requires-clause-below

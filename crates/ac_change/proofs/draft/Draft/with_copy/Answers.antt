@@ -1,6 +1,6 @@
 use Rattle.std.proofs.Common.{◌∙◌, ap, arith, subst, sym}
 use Rattle.ac_change.specs.Drafts.{AreRooted, AreWhole, all_held}
-use Rattle.ac_change.proofs.Copying.Copies.{copy_is, copy_rooted, copy_whole, listed_size}
+use Rattle.ac_change.proofs.CopyFacts.Copies.{copy_is, copy_rooted, copy_whole, listed_size}
 use Rattle.ac_change.proofs.draft.Draft.with_copy.Goals as goal
 
 pub copy-requires : goal.copy-requires

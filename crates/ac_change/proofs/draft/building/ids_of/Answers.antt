@@ -1,6 +1,6 @@
 use Rattle.std.proofs.Common.{◌∙◌, ℕ, ap, arith}
 use Rattle.std.specs.Global.{Vec}
-use Rattle.ac_change.proofs.Forest.Built.{few_built, fit_built, listed_again, rising_built}
+use Rattle.ac_change.proofs.ForestFacts.Built.{few_built, fit_built, listed_again, rising_built}
 use Rattle.ac_change.proofs.draft.building.ids_of.Goals as goal
 
 pub places-requires : goal.places-requires

@@ -2,7 +2,7 @@ use Rattle.std.proofs.Common.{◌≡◌, Some}
 use Rattle.ac_cloud.specs.World.{place_of}
 use Rattle.ac_change.specs.Drafts.{all_held}
 use Rattle.ac_change.specs.Shown.{edit_shown}
-use Rattle.ac_change.proofs.Edits.EditedAt.{held_fine, set_each}
+use Rattle.ac_change.proofs.EditFacts.EditedAt.{held_fine, set_each}
 use Rattle.ac_change.proofs.draft.edits.edit_all.Goals as goal
 use Rattle.ac_change.proofs.draft.edits.edit_all.Goals.{In-Some}
 

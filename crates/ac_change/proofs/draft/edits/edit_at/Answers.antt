@@ -1,7 +1,7 @@
 use Rattle.std.proofs.Common.{◌∙◌, ap}
 use Rattle.ac_change.specs.Changes.{edited}
 use Rattle.ac_change.specs.Shown.{edit_shown}
-use Rattle.ac_change.proofs.Edits.EditedAt.{providers_set, roots_set}
+use Rattle.ac_change.proofs.EditFacts.EditedAt.{providers_set, roots_set}
 use Rattle.ac_change.proofs.draft.edits.edit_at.Goals as goal
 
 pub returns-clause-providers : goal.returns-clause-providers

@@ -1,6 +1,6 @@
 use Rattle.ac_base.specs.Names.{class_bytes, trait_bytes}
 use Rattle.ac_change.specs.Shown.{setting_shown}
-use Rattle.ac_change.proofs.Edits.Rises.{entries_rise, gained_rise, joined_rise, left_rise, lost_rise}
+use Rattle.ac_change.proofs.EditFacts.Rises.{entries_rise, gained_rise, joined_rise, left_rise, lost_rise}
 use Rattle.ac_change.proofs.draft.edits.edited.Goals as goal
 
 pub with_traits-requires : goal.with_traits-requires

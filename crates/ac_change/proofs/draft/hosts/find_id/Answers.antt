@@ -3,7 +3,7 @@ use Rattle.std.proofs.lemmas.Iterator.{YieldsList-from_slice}
 use Rattle.std.proofs.lemmas.Iterator.Search.{position_from_yields_List}
 use Rattle.std.proofs.lemmas.Iterator.Adapters.{position_from-zero}
 use Rattle.ac_change.specs.Drafts.{all_held}
-use Rattle.ac_change.proofs.Edits.Touching.{place_held}
+use Rattle.ac_change.proofs.EditFacts.Touching.{place_held}
 use Rattle.ac_change.proofs.draft.hosts.find_id.Goals as goal
 
 pub returns-clause-place : goal.returns-clause-place

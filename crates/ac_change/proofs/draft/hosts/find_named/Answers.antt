@@ -4,7 +4,7 @@ use Rattle.ac_cloud.proofs.Places.HostFacts.{first_passes, place_fails, second_p
 use Rattle.std.proofs.lemmas.List.{length-map}
 use Rattle.ac_change.specs.Drafts.{all_held}
 use Rattle.ac_change.specs.Held.{provider_held}
-use Rattle.ac_change.proofs.Edits.Touching.{inside_more}
+use Rattle.ac_change.proofs.EditFacts.Touching.{inside_more}
 use Rattle.ac_change.proofs.draft.hosts.find_named.Goals as goal
 use Rattle.ac_change.proofs.draft.hosts.find_named.Goals.{then-is_named+else-is_some, else-is_named}
 

@@ -1,7 +1,7 @@
 use Rattle.std.proofs.Common.{◌∙◌, ℕ, ap, arith}
 use Rattle.std.specs.BTreeSet.{BTreeSet}
 use Rattle.ac_base.specs.Sorted.{is_one_of}
-use Rattle.ac_change.proofs.Edits.Touching.{member_more, member_passed}
+use Rattle.ac_change.proofs.EditFacts.Touching.{member_more, member_passed}
 use Rattle.ac_change.proofs.draft.hosts.find_roots.Goals as goal
 use Rattle.ac_change.proofs.draft.hosts.find_roots.Goals.{then-belongs+in_ok-insert, else-belongs}
 

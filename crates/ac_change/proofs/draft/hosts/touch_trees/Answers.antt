@@ -1,4 +1,4 @@
-use Rattle.ac_change.proofs.Edits.Touching.{marks_trees}
+use Rattle.ac_change.proofs.EditFacts.Touching.{marks_trees}
 use Rattle.ac_change.proofs.draft.hosts.touch_trees.Goals as goal
 
 pub returns : goal.returns

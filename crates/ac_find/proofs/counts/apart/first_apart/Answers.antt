@@ -8,7 +8,7 @@ use Rattle.ac_query.specs.Shown.Queries.{asked_of}
 use Rattle.ac_cloud.specs.Cloud.CloudWorld.{providers_of}
 use Rattle.ac_find.specs.Apart.{apart_from, first_apart}
 use Rattle.ac_find.specs.Shown.Apart.{AreServed}
-use Rattle.ac_find.proofs.Counting.ApartLemmas.{find_from, rows_more}
+use Rattle.ac_find.proofs.CountFacts.ApartLemmas.{find_from, rows_more}
 use Rattle.ac_find.proofs.counts.apart.first_apart.Goals as goal
 
 pub invariant_of-served : goal.invariant_of-served

@@ -1,6 +1,6 @@
 use Rattle.std.proofs.Common.{◌∙◌, ℕ, ◌+◌, ◌-◌, Bool, ◌&&◌, ◌||◌, false, length, slice_index_or, ap, ap₂, sym}
 use Rattle.std.specs.List.{list_any, range_with_len}
-use Rattle.ac_find.proofs.Counting.ApartLemmas.{any_from}
+use Rattle.ac_find.proofs.CountFacts.ApartLemmas.{any_from}
 use Rattle.ac_find.proofs.counts.apart.have_common.Goals.{else-first-r-via-then-first-r+else-other-r, else-first-r-via-else-first-r}
 use Rattle.ac_find.proofs.counts.apart.have_common.Goals as goal
 

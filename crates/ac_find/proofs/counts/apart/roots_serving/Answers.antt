@@ -3,7 +3,7 @@ use Rattle.std.proofs.lemmas.List.{with_items_is}
 use Rattle.std.proofs.lemmas.List.FromFn.{length-map-range_with_len}
 use Rattle.ac_query.specs.Shown.Queries.{asked_of}
 use Rattle.ac_cloud.specs.Cloud.CloudWorld.{providers_of}
-use Rattle.ac_find.proofs.Counting.ExplainedLemmas.{served_one}
+use Rattle.ac_find.proofs.CountFacts.ExplainedLemmas.{served_one}
 use Rattle.ac_rules.specs.Placed.{slot_at}
 use Rattle.ac_rules.specs.Together.{takes_root}
 use Rattle.ac_find.proofs.counts.apart.roots_serving.Goals as goal

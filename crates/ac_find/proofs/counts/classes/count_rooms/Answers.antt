@@ -7,7 +7,7 @@ use Rattle.ac_query.specs.Shown.Queries.{asked_of}
 use Rattle.ac_cloud.specs.Cloud.CloudWorld.{providers_of}
 use Rattle.ac_rules.specs.Placed.{slot_at}
 use Rattle.ac_find.specs.Explained.{class_room}
-use Rattle.ac_find.proofs.Counting.ExplainedLemmas.{class_marked}
+use Rattle.ac_find.proofs.CountFacts.ExplainedLemmas.{class_marked}
 use Rattle.ac_find.proofs.counts.classes.count_rooms.Goals as goal
 
 pub count_room-requires : goal.count_room-requires

@@ -7,7 +7,7 @@ use Rattle.ac_query.specs.Shown.Queries.{asked_of}
 use Rattle.ac_cloud.specs.Cloud.CloudWorld.{providers_of}
 use Rattle.ac_rules.specs.Placed.{slot_at}
 use Rattle.ac_find.specs.Explained.{most_left}
-use Rattle.ac_find.proofs.Counting.ExplainedLemmas.{left_marked}
+use Rattle.ac_find.proofs.CountFacts.ExplainedLemmas.{left_marked}
 use Rattle.ac_find.proofs.counts.classes.find_most.Goals as goal
 
 pub most_left-requires : goal.most_left-requires

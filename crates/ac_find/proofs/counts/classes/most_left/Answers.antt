@@ -1,5 +1,5 @@
 use Rattle.std.proofs.Common.{arith}
-use Rattle.ac_find.proofs.Counting.ExplainedLemmas.{greatest_more}
+use Rattle.ac_find.proofs.CountFacts.ExplainedLemmas.{greatest_more}
 use Rattle.ac_find.proofs.counts.classes.most_left.Goals as goal
 
 pub loop-ix-preserved : goal.loop-ix-preserved

@@ -8,7 +8,7 @@ use Rattle.ac_query.specs.declared.group.Group as rust
 use Rattle.ac_query.specs.Shown.Queries.{asked_of}
 use Rattle.ac_cloud.specs.Cloud.CloudWorld.{providers_of}
 use Rattle.ac_find.specs.Explained.{are_held}
-use Rattle.ac_find.proofs.Counting.RequiredLemmas.{kept_all, kept_more, kept_same}
+use Rattle.ac_find.proofs.CountFacts.RequiredLemmas.{kept_all, kept_more, kept_same}
 use Rattle.ac_find.proofs.counts.required.limit_required.Goals as goal
 
 pub loop-group-init : goal.loop-group-init

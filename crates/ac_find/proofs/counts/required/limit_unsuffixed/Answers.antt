@@ -3,7 +3,7 @@ use Rattle.ac_query.specs.Shown.Groups.{group_asked, suffix_of}
 use Rattle.ac_query.specs.Shown.Queries.{asked_of}
 use Rattle.ac_cloud.specs.Cloud.CloudWorld.{providers_of}
 use Rattle.ac_prune.proofs.Roots.RootLemmas.{if_ok}
-use Rattle.ac_find.proofs.Counting.RequiredLemmas.{held_there, kept_same}
+use Rattle.ac_find.proofs.CountFacts.RequiredLemmas.{held_there, kept_same}
 use Rattle.ac_find.proofs.counts.required.limit_unsuffixed.Goals as goal
 
 pub returns : goal.returns

@@ -6,7 +6,7 @@ use Rattle.ac_query.specs.Asked.{slots_of}
 use Rattle.ac_query.specs.Shown.Queries.{asked_of}
 use Rattle.ac_find.specs.Explained.{holds_required}
 use Rattle.ac_find.specs.Lacking.{first_unserved}
-use Rattle.ac_find.proofs.Wanting.LackingLemmas.{at_place, lack_found}
+use Rattle.ac_find.proofs.WantingFacts.LackingLemmas.{at_place, lack_found}
 use Rattle.ac_find.proofs.lacks.Found.lack.Goals as goal
 
 pub index-requires : goal.index-requires

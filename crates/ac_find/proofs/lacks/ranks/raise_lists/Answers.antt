@@ -3,7 +3,7 @@ use Rattle.std.proofs.lemmas.List.{get_or-map}
 use Rattle.ac_cloud.specs.Cloud.Anchors.{list_items}
 use Rattle.ac_prune.specs.Trees.Keys.{is_there}
 use Rattle.std.specs.List.{list_any, range_with_len}
-use Rattle.ac_find.proofs.Wanting.LackingLemmas.{listed_more, or_behind}
+use Rattle.ac_find.proofs.WantingFacts.LackingLemmas.{listed_more, or_behind}
 use Rattle.ac_find.proofs.lacks.ranks.raise_lists.Goals as goal
 
 pub loop-k-preserved : goal.loop-k-preserved

@@ -12,7 +12,7 @@ use Rattle.ac_find.specs.Explained.{in_slot}
 use Rattle.ac_find.specs.Furthest.{short_left}
 use Rattle.ac_find.specs.Shown.Furthest.{AreSmall, rank}
 use Rattle.ac_find.specs.Shown.Lacking.{is_listed}
-use Rattle.ac_find.proofs.Wanting.LackingLemmas.{lists_more, none_reached, or_behind, or_swap, reached_all, reached_more}
+use Rattle.ac_find.proofs.WantingFacts.LackingLemmas.{lists_more, none_reached, or_behind, or_swap, reached_all, reached_more}
 use Rattle.ac_find.proofs.lacks.ranks.rank_lists.Goals as goal
 use Rattle.ac_find.proofs.lacks.ranks.rank_lists.Goals.{in-Some, in-None}
 

@@ -5,7 +5,7 @@ use Rattle.std.proofs.lemmas.List.{length-set, take_all}
 use Rattle.ac_base.specs.Names.{trait_bytes}
 use Rattle.ac_base.specs.declared.name.TraitName.{TraitName}
 use Rattle.ac_base.proofs.Sorted.SearchFacts.{any_map}
-use Rattle.ac_find.proofs.Counting.MarkLemmas.{mark_set, marked_more, or_off}
+use Rattle.ac_find.proofs.CountFacts.MarkLemmas.{mark_set, marked_more, or_off}
 use Rattle.ac_find.proofs.missing.marks.mark_among.Goals as goal
 use Rattle.ac_find.proofs.missing.marks.mark_among.Goals.{in-Some, in_default}
 

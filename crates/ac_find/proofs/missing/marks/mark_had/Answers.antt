@@ -4,7 +4,7 @@ use Rattle.std.specs.List.{list_any, range_with_len}
 use Rattle.ac_base.specs.Names.{trait_bytes}
 use Rattle.ac_cloud.specs.Cloud.CloudWorld.{providers_of}
 use Rattle.ac_cloud.specs.World.{Provider, has_trait, is_root, provider_at}
-use Rattle.ac_find.proofs.Counting.MarkLemmas.{had_by, had_more, or_off}
+use Rattle.ac_find.proofs.CountFacts.MarkLemmas.{had_by, had_more, or_off}
 use Rattle.ac_find.proofs.missing.marks.mark_had.Goals as goal
 use Rattle.ac_find.proofs.missing.marks.mark_had.Goals.{then-is_asked, else-is_asked}
 

@@ -1,7 +1,7 @@
 use Rattle.std.proofs.lemmas.Cmp.{nat_list_cmp_total}
 use Rattle.ac_base.specs.Names.{trait_bytes}
 use Rattle.ac_base.proofs.Sorted.SearchFacts.{found}
-use Rattle.ac_find.proofs.Counting.MarkLemmas.{placed_alone, placed_inside}
+use Rattle.ac_find.proofs.CountFacts.MarkLemmas.{placed_alone, placed_inside}
 use Rattle.ac_find.proofs.missing.marks.place_among.Goals as goal
 
 pub returns : goal.returns

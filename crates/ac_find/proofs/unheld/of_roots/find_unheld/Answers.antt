@@ -8,8 +8,8 @@ use Rattle.ac_find.specs.Unheld.{unheld_at, unheld_where}
 use Rattle.ac_find.specs.Shown.Unheld.{told_more}
 use Rattle.ac_find.specs.declared.lacks.Lack.{Lack}
 use Rattle.ac_find.specs.declared.unheld.of_roots.Unheld.{Unheld}
-use Rattle.ac_find.proofs.Wanting.LackingLemmas.{at_place}
-use Rattle.ac_find.proofs.Wanting.UnheldLemmas.{told_where}
+use Rattle.ac_find.proofs.WantingFacts.LackingLemmas.{at_place}
+use Rattle.ac_find.proofs.WantingFacts.UnheldLemmas.{told_where}
 use Rattle.ac_find.proofs.unheld.of_roots.find_unheld.Goals as goal
 
 pub tell_lacked-requires-clause-lacks : goal.tell_lacked-requires-clause-lacks

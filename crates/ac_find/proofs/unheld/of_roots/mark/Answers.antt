@@ -1,7 +1,7 @@
 use Rattle.std.proofs.Common.{◌≡◌, ◌∙◌, ◌<◌, ℕ, None, Some, false, length, slice_index_or, ap₂, arith, if◌then◌else◌}
 use Rattle.std.proofs.lemmas.List.{get_or-set_other, length-set}
 use Rattle.ac_find.specs.Shown.Unheld.{told_more}
-use Rattle.ac_find.proofs.Wanting.LackingLemmas.{set_more}
+use Rattle.ac_find.proofs.WantingFacts.LackingLemmas.{set_more}
 use Rattle.ac_find.proofs.unheld.of_roots.mark.Goals as goal
 
 pub loop-r-preserved : goal.loop-r-preserved

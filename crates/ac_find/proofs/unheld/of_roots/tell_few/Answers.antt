@@ -8,7 +8,7 @@ use Rattle.ac_find.specs.Unheld.{unheld_trait}
 use Rattle.ac_find.specs.Shown.Unheld.{told_more}
 use Rattle.ac_find.specs.declared.unheld.of_roots.Unheld.{Unheld}
 use Rattle.ac_find.specs.declared.unheld.of_roots.Unheld.TheVariants as unheld
-use Rattle.ac_find.proofs.Wanting.LackingLemmas.{set_more}
+use Rattle.ac_find.proofs.WantingFacts.LackingLemmas.{set_more}
 use Rattle.ac_find.proofs.unheld.of_roots.tell_few.Goals as goal
 
 pub loop-root-preserved : goal.loop-root-preserved

@@ -6,7 +6,7 @@ use Rattle.ac_cloud.specs.Cloud.CloudWorld.{providers_of}
 use Rattle.ac_prune.proofs.Roots.RootLemmas.{if_ok}
 use Rattle.ac_find.specs.Unheld.{unheld_list, unheld_of_group, unheld_trait}
 use Rattle.ac_find.specs.declared.unheld.of_roots.Unheld.TheVariants as unheld
-use Rattle.ac_find.proofs.Wanting.UnheldLemmas.{told_both, told_same}
+use Rattle.ac_find.proofs.WantingFacts.UnheldLemmas.{told_both, told_same}
 use Rattle.ac_find.proofs.unheld.of_roots.tell_group.Goals as goal
 
 pub returns : goal.returns

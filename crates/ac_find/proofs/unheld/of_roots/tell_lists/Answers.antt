@@ -8,7 +8,7 @@ use Rattle.ac_query.specs.Shown.Groups.{any_of_shown}
 use Rattle.ac_query.specs.Shown.Queries.{asked_of}
 use Rattle.ac_find.specs.Explained.{is_one_held}
 use Rattle.ac_find.specs.declared.unheld.of_roots.Unheld.TheVariants as unheld
-use Rattle.ac_find.proofs.Wanting.UnheldLemmas.{first_more, told_both}
+use Rattle.ac_find.proofs.WantingFacts.UnheldLemmas.{first_more, told_both}
 use Rattle.ac_find.proofs.unheld.of_roots.tell_lists.Goals as goal
 
 pub loop-k-preserved : goal.loop-k-preserved

@@ -9,7 +9,7 @@ use Rattle.ac_find.specs.Explained.{is_one_held}
 use Rattle.ac_find.specs.Shown.Unheld.{lacks_traits, open_roots, told_more}
 use Rattle.ac_find.specs.declared.lacks.Lack.{Lack}
 use Rattle.ac_find.specs.declared.unheld.of_roots.Unheld.{Unheld}
-use Rattle.ac_find.proofs.Wanting.UnheldLemmas.{open_told}
+use Rattle.ac_find.proofs.WantingFacts.UnheldLemmas.{open_told}
 use Rattle.ac_find.proofs.unheld.of_roots.tell_names.Goals as goal
 
 -- as many marks as there are roots

@@ -11,8 +11,8 @@ use Rattle.ac_query.specs.Shown.Queries.{asked_of}
 use Rattle.ac_prune.proofs.Roots.RootLemmas.{if_ok}
 use Rattle.ac_find.specs.Explained.{is_held, is_one_held}
 use Rattle.ac_find.specs.declared.unheld.of_roots.Unheld.TheVariants as unheld
-use Rattle.ac_find.proofs.Counting.RequiredLemmas.{alone_rises, held_alone}
-use Rattle.ac_find.proofs.Wanting.UnheldLemmas.{first_more, first_whole, told_both}
+use Rattle.ac_find.proofs.CountFacts.RequiredLemmas.{alone_rises, held_alone}
+use Rattle.ac_find.proofs.WantingFacts.UnheldLemmas.{first_more, first_whole, told_both}
 use Rattle.ac_find.proofs.unheld.of_roots.tell_traits.Goals as goal
 
 pub tell_names-requires-clause-sorted : goal.tell_names-requires-clause-sorted

@@ -5,8 +5,8 @@ use Rattle.ac_query.specs.Shown.Queries.{asked_of}
 use Rattle.ac_cloud.specs.Cloud.CloudWorld.{providers_of}
 use Rattle.ac_find.specs.Unheld.{unheld_trait}
 use Rattle.ac_find.specs.declared.unheld.of_roots.Unheld.TheVariants as unheld
-use Rattle.ac_find.proofs.Counting.RequiredLemmas.{first_by_each}
-use Rattle.ac_find.proofs.Wanting.UnheldLemmas.{closed_told, opened_told}
+use Rattle.ac_find.proofs.CountFacts.RequiredLemmas.{first_by_each}
+use Rattle.ac_find.proofs.WantingFacts.UnheldLemmas.{closed_told, opened_told}
 use Rattle.ac_find.proofs.unheld.of_roots.told_at.Goals as goal
 
 pub returns-then-not-is_open : goal.returns-then-not-is_open

@@ -9,8 +9,8 @@ use Rattle.ac_find.specs.declared.lacks.Lack.{Lack}
 use Rattle.ac_find.specs.declared.lacks.Lack.TheVariants as lack
 use Rattle.ac_find.specs.Unheld.{unheld_text, unheld_where}
 use Rattle.ac_prune.proofs.Roots.RootLemmas.{if_ok}
-use Rattle.ac_find.proofs.Wanting.UnheldLemmas.{words_told}
-use Rattle.ac_find.proofs.Wanting.FurthestLemmas.{class_low, furthest_low, lack_numbers}
+use Rattle.ac_find.proofs.WantingFacts.UnheldLemmas.{words_told}
+use Rattle.ac_find.proofs.WantingFacts.FurthestLemmas.{class_low, furthest_low, lack_numbers}
 use Rattle.ac_report.specs.Findings.HostRows.{host_detail}
 use Rattle.ac_report.proofs.findings.host_details.host_detail.Goals as goal
 

@@ -11,7 +11,7 @@ use Rattle.ac_prune.specs.Fitting.{fits_at}
 use Rattle.ac_find.specs.Furthest.{wanting_where}
 use Rattle.ac_find.specs.Lacking.{lack_at}
 use Rattle.ac_find.specs.Unheld.{unheld_where}
-use Rattle.ac_find.proofs.Wanting.LackingLemmas.{at_place}
+use Rattle.ac_find.proofs.WantingFacts.LackingLemmas.{at_place}
 use Rattle.ac_report.specs.Findings.HostRows.{host_columns, host_row, hosts_text}
 use Rattle.ac_report.proofs.findings.host_rows.hosts_text.Goals as goal
 

@@ -6,7 +6,7 @@ use Rattle.ac_cloud.specs.Cloud.CloudWorld.{providers_of}
 use Rattle.ac_query.specs.Shown.Queries.{asked_of}
 use Rattle.ac_find.specs.Lacking.{lack_at}
 use Rattle.ac_find.specs.declared.lacks.Lack.{Lack}
-use Rattle.ac_find.proofs.Wanting.LackingLemmas.{at_place}
+use Rattle.ac_find.proofs.WantingFacts.LackingLemmas.{at_place}
 use Rattle.ac_report.proofs.findings.host_sums.lacks_at.Goals as goal
 
 pub bounds-lacks-root : goal.bounds-lacks-root

@@ -7,7 +7,7 @@ use Rattle.ac_cloud.specs.Cloud.CloudWorld.{providers_of}
 use Rattle.ac_cloud.specs.World.{id_at, is_root}
 use Rattle.ac_rules.proofs.EachSlot.AnchorLemmas.{each_range}
 use Rattle.ac_prune.proofs.Search.OpenLemmas.{choice_more, filter_few}
-use Rattle.ac_find.proofs.Wanting.LackingLemmas.{at_place}
+use Rattle.ac_find.proofs.WantingFacts.LackingLemmas.{at_place}
 use Rattle.ac_report.specs.Findings.HostRows.{is_within}
 use Rattle.ac_report.proofs.FoundTexts.RowsWritten.{both_tests}
 use Rattle.ac_report.proofs.findings.within.roots_within.Goals as goal

@@ -6,7 +6,7 @@ use Rattle.ac_run.specs.Flavors.{first_refused, plan_of, plan_shown}
 use Rattle.ac_run.specs.declared.capacity.flavors.Plan.{Plan}
 use Rattle.ac_tables.specs.Flavors.{flavor_shown}
 use Rattle.ac_tables.specs.declared.flavors.Flavor.{Flavor}
-use Rattle.ac_run.proofs.Flavors.FlavorsRead.{next_of, seam}
+use Rattle.ac_run.proofs.FlavorFacts.FlavorsRead.{next_of, seam}
 use Rattle.ac_run.proofs.capacity.flavors.read_each.Goals as goal
 
 pub loop-flavor-preserved : goal.loop-flavor-preserved

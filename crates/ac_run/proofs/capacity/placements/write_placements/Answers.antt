@@ -4,7 +4,7 @@ use Rattle.ac_fill.specs.Filled.{filled}
 use Rattle.ac_query.specs.Shown.Queries.{asked_of}
 use Rattle.ac_run.specs.Answer.{fills_by}
 use Rattle.ac_run.specs.Outputs.{fill_status}
-use Rattle.ac_run.proofs.Refused.Delivering.{breaks_off}
+use Rattle.ac_run.proofs.RefusalFacts.Delivering.{breaks_off}
 use Rattle.ac_run.proofs.capacity.placements.write_placements.Goals as goal
 
 pub returns : goal.returns

@@ -1,5 +1,5 @@
 use Rattle.std.proofs.lemmas.Result.{on_ok_weaker}
-use Rattle.ac_session.proofs.Answers.Escaped.{ends_part, ends_whole, part_any}
+use Rattle.ac_session.proofs.AnswerFacts.Escaped.{ends_part, ends_whole, part_any}
 use Rattle.ac_session.proofs.escaping.Escaping.finish.Goals as goal
 
 pub returns-clause-ok : goal.returns-clause-ok

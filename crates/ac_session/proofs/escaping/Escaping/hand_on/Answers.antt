@@ -1,5 +1,5 @@
 use Rattle.std.proofs.Common.{◌∙◌, ap}
-use Rattle.ac_session.proofs.Answers.Escaped.{goes_on, goes_plain, in_part}
+use Rattle.ac_session.proofs.AnswerFacts.Escaped.{goes_on, goes_plain, in_part}
 use Rattle.ac_session.specs.Frames.{begins_line}
 use Rattle.ac_session.proofs.escaping.Escaping.hand_on.Goals as goal
 

@@ -1,4 +1,4 @@
-use Rattle.ac_session.proofs.Answers.Escaped.{ends_within}
+use Rattle.ac_session.proofs.AnswerFacts.Escaped.{ends_within}
 use Rattle.ac_session.proofs.escaping.Escaping.into_inner.Goals as goal
 
 pub returns-clause-part : goal.returns-clause-part

@@ -1,7 +1,7 @@
 use Rattle.std.proofs.Common.{◌∙◌, [], ◌∷◌, ap, Some, sym, subst}
 use Rattle.ac_base.specs.Devices.{PushTakes}
 use Rattle.ac_base.specs.declared.device.Push.TheVariants as push
-use Rattle.ac_session.proofs.Answers.Escaped.{goes_marked, goes_on, marked_begins}
+use Rattle.ac_session.proofs.AnswerFacts.Escaped.{goes_marked, goes_on, marked_begins}
 use Rattle.ac_session.specs.Escapes.{taken_since}
 use Rattle.ac_session.specs.Frames.{begins_line}
 use Rattle.ac_session.proofs.escaping.Escaping.mark.Goals as goal

@@ -1,7 +1,7 @@
 use Rattle.std.proofs.Common.{◌∙◌, ap, arith, length, sym}
 use Rattle.ac_base.proofs.HandedOn.{later_rise}
-use Rattle.ac_session.proofs.Reads.Leading.{at_end, error_gives, given_up_later, line_behind, line_given, long_behind, long_given, long_kept, rest_behind, rest_given, unfound}
-use Rattle.ac_session.proofs.Reads.Rooms.{held_inside}
+use Rattle.ac_session.proofs.ReadingFacts.Leading.{at_end, error_gives, given_up_later, line_behind, line_given, long_behind, long_given, long_kept, rest_behind, rest_given, unfound}
+use Rattle.ac_session.proofs.ReadingFacts.Rooms.{held_inside}
 use Rattle.ac_session.proofs.lines.Lines.advance.Goals as goal
 
 pub returns-in-Some-clause-given : goal.returns-in-Some-clause-given

@@ -2,7 +2,7 @@ use Rattle.std.proofs.Common.{◌≡◌, arith, Contains, false, is_some, positi
 use Rattle.std.proofs.lemmas.Grind.{common_steps}
 use Rattle.ac_session.specs.Lines.{is_newline, newline}
 use Rattle.ac_session.specs.Reading.{in_room}
-use Rattle.ac_session.proofs.Reads.Leading.Firsts.{passing_found, still_missed}
+use Rattle.ac_session.proofs.ReadingFacts.Leading.Firsts.{passing_found, still_missed}
 use Rattle.ac_session.proofs.lines.Lines.find_newline.Goals as goal
 
 pub returns-in_err-read_on-clause-unasked : goal.returns-in_err-read_on-clause-unasked

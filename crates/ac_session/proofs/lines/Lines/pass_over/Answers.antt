@@ -1,6 +1,6 @@
 use Rattle.std.proofs.Common.{◌∙◌, ◌+◌, arith, rules, sym}
 use Rattle.ac_session.specs.Reading.{left}
-use Rattle.ac_session.proofs.Reads.Leading.Passing.{Passes, passes_found, passes_keeps, passes_on}
+use Rattle.ac_session.proofs.ReadingFacts.Leading.Passing.{Passes, passes_found, passes_keeps, passes_on}
 use Rattle.ac_session.proofs.lines.Lines.pass_over.Goals as goal
 
 pub returns-then-drop_line-clause-behind : goal.returns-then-drop_line-clause-behind

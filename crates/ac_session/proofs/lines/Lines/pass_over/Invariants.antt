@@ -1,5 +1,5 @@
 use Rattle.std.proofs.Common.{◌≡◌, ◌<◌, ◌≤◌, length}
-use Rattle.ac_session.proofs.Reads.Leading.Passing.{Passes}
+use Rattle.ac_session.proofs.ReadingFacts.Leading.Passing.{Passes}
 use Rattle.ac_session.specs.Reading.{feed_in, in_room, left}
 use Rattle.ac_session.proofs.lines.Lines.pass_over.Given as goal
 

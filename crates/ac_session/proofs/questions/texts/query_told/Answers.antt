@@ -1,7 +1,7 @@
 use Rattle.std.proofs.Common.{Some, ap}
 use Rattle.ac_run.specs.Naming.{query_asked}
 use Rattle.ac_run.specs.Wanted.Named.{mapped}
-use Rattle.ac_run.proofs.Refused.Attempted.{tells_on}
+use Rattle.ac_run.proofs.RefusalFacts.Attempted.{tells_on}
 use Rattle.ac_session.proofs.questions.texts.query_told.Goals as goal
 
 pub returns-in-Err-clause-fault : goal.returns-in-Err-clause-fault

@@ -1,7 +1,7 @@
 use Rattle.std.proofs.Common.{◌≡◌, ◌∙◌, ◌+◌, ◌∷◌, map, drop, sym, ap}
 use Rattle.std.proofs.lemmas.List.{drop_all, drop_more}
 use Rattle.ac_cloud.specs.Cloud.CloudWorld.{providers_of}
-use Rattle.ac_session.proofs.Turning.Differing.{restored_more, restored_none}
+use Rattle.ac_session.proofs.TurnFacts.Differing.{restored_more, restored_none}
 use Rattle.ac_session.specs.Marks.{kept_shown, restored}
 use Rattle.ac_session.proofs.turns.marks.use_again.Goals as goal
 

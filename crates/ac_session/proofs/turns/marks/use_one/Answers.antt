@@ -1,6 +1,6 @@
 use Rattle.std.proofs.Common.{arith}
 use Rattle.ac_cloud.specs.Cloud.CloudWorld.{providers_of}
-use Rattle.ac_session.proofs.Turning.Differing.{restored_past}
+use Rattle.ac_session.proofs.TurnFacts.Differing.{restored_past}
 use Rattle.ac_session.specs.Marks.{kept_shown, restored}
 use Rattle.ac_session.proofs.turns.marks.use_one.Goals as goal
 

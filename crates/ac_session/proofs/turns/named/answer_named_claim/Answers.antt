@@ -1,6 +1,6 @@
 use Rattle.std.proofs.Common.{◌∙◌, sym}
-use Rattle.ac_session.proofs.Turning.Named.{found_none, found_some, named_same, named_turn, wanting_first}
-use Rattle.ac_session.proofs.Answers.Written.{turn_same}
+use Rattle.ac_session.proofs.TurnFacts.Named.{found_none, found_some, named_same, named_turn, wanting_first}
+use Rattle.ac_session.proofs.AnswerFacts.Written.{turn_same}
 use Rattle.ac_session.specs.Held.{named_in}
 use Rattle.ac_session.specs.Turns.{named_claim_turn}
 use Rattle.ac_session.proofs.turns.named.answer_named_claim.Goals as goal

@@ -1,7 +1,7 @@
 use Rattle.std.proofs.Common.{◌∙◌, ℕ, List, ap, sym}
 use Rattle.std.specs.Option.{option_map}
-use Rattle.ac_session.proofs.Turning.Named.{named_same, named_turn, wanting_first}
-use Rattle.ac_session.proofs.Answers.Written.{turn_same}
+use Rattle.ac_session.proofs.TurnFacts.Named.{named_same, named_turn, wanting_first}
+use Rattle.ac_session.proofs.AnswerFacts.Written.{turn_same}
 use Rattle.ac_session.specs.Held.{Claim, claim_shown}
 use Rattle.ac_session.specs.Turns.{named_move_turn}
 use Rattle.ac_session.proofs.turns.named.answer_named_move.Goals as goal

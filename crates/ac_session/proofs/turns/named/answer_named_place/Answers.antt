@@ -1,6 +1,6 @@
 use Rattle.std.proofs.Common.{◌∙◌, ℕ, List, ap, refl, option_map, sym}
-use Rattle.ac_session.proofs.Turning.Named.{named_failed, named_placed, named_wanting}
-use Rattle.ac_session.proofs.Answers.Written.{turn_same, turn_weaker}
+use Rattle.ac_session.proofs.TurnFacts.Named.{named_failed, named_placed, named_wanting}
+use Rattle.ac_session.proofs.AnswerFacts.Written.{turn_same, turn_weaker}
 use Rattle.ac_session.specs.Held.{Claim, claim_shown}
 use Rattle.ac_session.specs.Turns.{named_place_turn}
 use Rattle.ac_session.proofs.turns.named.answer_named_place.Goals as goal

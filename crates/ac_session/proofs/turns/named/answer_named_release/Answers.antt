@@ -1,7 +1,7 @@
 use Rattle.std.proofs.Common.{◌∙◌, ap, sym}
 use Rattle.std.specs.Option.{option_map}
-use Rattle.ac_session.proofs.Turning.Named.{named_turn}
-use Rattle.ac_session.proofs.Answers.Written.{turn_same}
+use Rattle.ac_session.proofs.TurnFacts.Named.{named_turn}
+use Rattle.ac_session.proofs.AnswerFacts.Written.{turn_same}
 use Rattle.ac_session.specs.Held.{claim_shown}
 use Rattle.ac_session.specs.Turns.{named_release_turn}
 use Rattle.ac_session.proofs.turns.named.answer_named_release.Goals as goal

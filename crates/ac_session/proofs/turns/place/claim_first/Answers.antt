@@ -7,8 +7,8 @@ use Rattle.ac_rules.proofs.EachSlot.JudgeLemmas.{judges_candidates}
 use Rattle.ac_rules.specs.Claims.{claimed}
 use Rattle.ac_rules.specs.Placed.{assigned}
 use Rattle.ac_rules.specs.declared.verdict.Verdict.TheVariants as verdict
-use Rattle.ac_session.proofs.Turning.Turned.{same_world}
-use Rattle.ac_session.proofs.Answers.Written.{turn_whole}
+use Rattle.ac_session.proofs.TurnFacts.Turned.{same_world}
+use Rattle.ac_session.proofs.AnswerFacts.Written.{turn_whole}
 use Rattle.ac_session.specs.Turns.{placed_said, settles}
 use Rattle.ac_session.specs.Turns.Named.{are_named, terms_of}
 use Rattle.ac_session.proofs.turns.place.claim_first.Goals as goal

@@ -2,9 +2,9 @@ use Rattle.std.proofs.Common.{arith, None, option_map}
 use Rattle.ac_cloud.specs.Cloud.CloudWorld.{providers_of}
 use Rattle.ac_query.specs.Shown.Queries.{asked_of}
 use Rattle.ac_run.specs.Answer.{at_host}
-use Rattle.ac_session.proofs.Turning.FirstPlaced.{host_refused, nothing_told, said_plainly}
-use Rattle.ac_session.proofs.Turning.Turned.{query_refused}
-use Rattle.ac_session.proofs.Answers.Written.{turn_weaker}
+use Rattle.ac_session.proofs.TurnFacts.FirstPlaced.{host_refused, nothing_told, said_plainly}
+use Rattle.ac_session.proofs.TurnFacts.Turned.{query_refused}
+use Rattle.ac_session.proofs.AnswerFacts.Written.{turn_weaker}
 use Rattle.ac_session.specs.Turns.{place_line, place_turn}
 use Rattle.ac_session.specs.Turns.Named.{are_named, terms_of}
 use Rattle.ac_session.proofs.turns.place.place.Goals as goal

@@ -7,8 +7,8 @@ use Rattle.ac_rules.specs.Claims.{claimed}
 use Rattle.ac_rules.specs.Judge.{is_candidate}
 use Rattle.ac_rules.specs.Placed.{assigned}
 use Rattle.std.specs.Option.{option_map, unwrap_or}
-use Rattle.ac_session.proofs.Turning.FirstPlaced.{first_found}
-use Rattle.ac_session.proofs.Answers.Written.{gives_weaker, stopped_behind}
+use Rattle.ac_session.proofs.TurnFacts.FirstPlaced.{first_found}
+use Rattle.ac_session.proofs.AnswerFacts.Written.{gives_weaker, stopped_behind}
 use Rattle.ac_session.specs.Turns.{first_at, placed_said, settles}
 use Rattle.ac_session.specs.Turns.Named.{are_named, terms_of}
 use Rattle.ac_session.proofs.turns.place.place_first.Goals as goal

@@ -1,7 +1,7 @@
 use Rattle.std.proofs.Common.{◌≡◌, ◌==◌, filter, map, subst, sym}
 use Rattle.ac_change.specs.Drafts.{AreWhole}
 use Rattle.ac_change.specs.Held.{provider_held}
-use Rattle.ac_change.proofs.Copying.Copies.{tree_is, tree_one, tree_whole}
+use Rattle.ac_change.proofs.CopyFacts.Copies.{tree_is, tree_one, tree_whole}
 use Rattle.ac_change.proofs.draft.copies.Pattern.of.Goals as goal
 use Rattle.ac_change.proofs.draft.copies.Pattern.of.Goals.{In_ok-members}
 

@@ -4,7 +4,7 @@ use Rattle.std.specs.List.{range_with_len}
 use Rattle.ac_query.specs.Shown.Queries.{asked_of}
 use Rattle.ac_cloud.specs.Cloud.CloudWorld.{providers_of}
 use Rattle.ac_find.specs.Apart.{meet}
-use Rattle.ac_find.proofs.Counting.ApartLemmas.{find_from}
+use Rattle.ac_find.proofs.CountFacts.ApartLemmas.{find_from}
 use Rattle.ac_find.proofs.counts.apart.Served.apart_from.Goals as goal
 
 pub returns-then-not-meet-2-clause-apart : goal.returns-then-not-meet-2-clause-apart

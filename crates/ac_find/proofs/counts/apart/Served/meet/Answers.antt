@@ -2,7 +2,7 @@ use Rattle.std.proofs.Common.{◌∙◌, length, ap, sym}
 use Rattle.std.proofs.lemmas.List.FromFn.{length-map-range_with_len}
 use Rattle.ac_query.specs.Shown.Queries.{asked_of}
 use Rattle.ac_cloud.specs.Cloud.CloudWorld.{providers_of}
-use Rattle.ac_find.proofs.Counting.ApartLemmas.{common_meet, row_at}
+use Rattle.ac_find.proofs.CountFacts.ApartLemmas.{common_meet, row_at}
 use Rattle.ac_find.proofs.counts.apart.Served.meet.Goals as goal
 
 pub have_common-requires : goal.have_common-requires

@@ -5,7 +5,7 @@ use Rattle.ac_query.specs.Asked.{Asked, slots_of}
 use Rattle.ac_cloud.specs.World.{Provider}
 use Rattle.ac_query.specs.Shown.Queries.{asked_of}
 use Rattle.ac_rules.specs.Placed.{no_slot, slot_at}
-use Rattle.ac_find.proofs.Wanting.RankLemmas.{met_passes}
+use Rattle.ac_find.proofs.WantingFacts.RankLemmas.{met_passes}
 use Rattle.ac_find.specs.Explained.{in_slot}
 use Rattle.ac_find.specs.Furthest.{count_met}
 use Rattle.ac_find.specs.Shown.Met.{met_grid, met_row}

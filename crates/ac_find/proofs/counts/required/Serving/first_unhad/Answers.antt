@@ -5,7 +5,7 @@ use Rattle.std.proofs.lemmas.Iterator.Search.{position_from_yields_List}
 use Rattle.ac_base.specs.Names.{trait_bytes}
 use Rattle.ac_cloud.specs.Cloud.CloudWorld.{providers_of}
 use Rattle.ac_find.specs.Shown.Explained.{some_has}
-use Rattle.ac_find.proofs.Counting.RequiredLemmas.{first_map}
+use Rattle.ac_find.proofs.CountFacts.RequiredLemmas.{first_map}
 use Rattle.ac_find.proofs.counts.required.Serving.first_unhad.Goals as goal
 
 pub returns : goal.returns

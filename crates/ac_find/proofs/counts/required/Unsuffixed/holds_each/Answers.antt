@@ -2,7 +2,7 @@ use Rattle.std.proofs.Common.{◌∙◌, map}
 use Rattle.ac_base.specs.Names.{trait_bytes}
 use Rattle.ac_query.specs.Shown.Queries.{asked_of}
 use Rattle.ac_cloud.specs.Cloud.CloudWorld.{providers_of}
-use Rattle.ac_find.proofs.Counting.RequiredLemmas.{held_by_each}
+use Rattle.ac_find.proofs.CountFacts.RequiredLemmas.{held_by_each}
 use Rattle.ac_find.proofs.counts.required.Unsuffixed.holds_each.Goals as goal
 
 pub returns : goal.returns

@@ -9,7 +9,7 @@ use Rattle.ac_query.specs.Shown.Queries.{asked_of}
 use Rattle.ac_cloud.specs.Cloud.CloudWorld.{providers_of}
 use Rattle.ac_find.specs.Explained.{is_held, is_one_held}
 use Rattle.ac_prune.proofs.Roots.RootLemmas.{if_ok}
-use Rattle.ac_find.proofs.Counting.RequiredLemmas.{alone_rises, held_alone, kept_all, kept_more, kept_same, kept_whole}
+use Rattle.ac_find.proofs.CountFacts.RequiredLemmas.{alone_rises, held_alone, kept_all, kept_more, kept_same, kept_whole}
 use Rattle.ac_find.proofs.counts.required.Unsuffixed.limit_each.Goals as goal
 
 pub limit_names-requires-clause-sorted : goal.limit_names-requires-clause-sorted

@@ -5,7 +5,7 @@ use Rattle.ac_query.specs.Shown.Queries.{asked_of}
 use Rattle.ac_cloud.specs.Cloud.CloudWorld.{providers_of}
 use Rattle.ac_find.specs.Explained.{is_held, is_one_held}
 use Rattle.ac_prune.proofs.Roots.RootLemmas.{if_ok}
-use Rattle.ac_find.proofs.Counting.RequiredLemmas.{kept_both, kept_same}
+use Rattle.ac_find.proofs.CountFacts.RequiredLemmas.{kept_both, kept_same}
 use Rattle.ac_find.proofs.counts.required.Unsuffixed.limit_group.Goals as goal
 
 pub returns : goal.returns

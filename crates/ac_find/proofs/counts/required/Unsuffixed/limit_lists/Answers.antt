@@ -6,7 +6,7 @@ use Rattle.ac_query.specs.declared.group.AnyOf.{AnyOf}
 use Rattle.ac_query.specs.Shown.Queries.{asked_of}
 use Rattle.ac_cloud.specs.Cloud.CloudWorld.{providers_of}
 use Rattle.ac_find.specs.Explained.{is_one_held}
-use Rattle.ac_find.proofs.Counting.RequiredLemmas.{kept_all, kept_more, kept_same}
+use Rattle.ac_find.proofs.CountFacts.RequiredLemmas.{kept_all, kept_more, kept_same}
 use Rattle.ac_find.proofs.counts.required.Unsuffixed.limit_lists.Goals as goal
 
 pub loop-list-init : goal.loop-list-init

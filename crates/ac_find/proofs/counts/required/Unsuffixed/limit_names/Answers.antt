@@ -4,7 +4,7 @@ use Rattle.ac_base.specs.Names.{trait_bytes}
 use Rattle.ac_query.specs.Shown.Queries.{asked_of}
 use Rattle.ac_cloud.specs.Cloud.CloudWorld.{providers_of}
 use Rattle.ac_prune.proofs.Roots.RootLemmas.{if_ok}
-use Rattle.ac_find.proofs.Counting.RequiredLemmas.{kept_limited}
+use Rattle.ac_find.proofs.CountFacts.RequiredLemmas.{kept_limited}
 use Rattle.ac_find.proofs.counts.required.Unsuffixed.limit_names.Goals as goal
 
 pub limit-requires-clause-rooms : goal.limit-requires-clause-rooms

@@ -7,7 +7,7 @@ use Rattle.ac_run.specs.Wanted.NamedFlavors.{at_record, flavor_columns, flavor_r
 use Rattle.ac_tables.specs.Flavors.{Flavor, flavor_shown}
 use Rattle.ac_tables.specs.declared.flavors.Flavor as rust
 use Rattle.ac_run.proofs.EachFound.{all_found, found_behind, has_found, nothing_yet, pair_mapped, tells_all}
-use Rattle.ac_run.proofs.Flavors.FlavorsRead.{next_of}
+use Rattle.ac_run.proofs.FlavorFacts.FlavorsRead.{next_of}
 use Rattle.ac_run.proofs.wanted.named.flavors.flavors_text.Goals as goal
 
 abbrev with_query : rust.Flavor → List ℕ → Flavor

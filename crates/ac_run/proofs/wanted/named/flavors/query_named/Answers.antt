@@ -1,7 +1,7 @@
 use Rattle.std.proofs.Common.{◌∙◌, ℕ, List, Result, ap, subst, sym}
 use Rattle.ac_report.specs.declared.called.NameFault.{NameFault}
 use Rattle.ac_run.specs.Wanted.Named.{TellsPair, query_with_ids}
-use Rattle.ac_run.proofs.Flavors.FlavorsNamed.{named_text}
+use Rattle.ac_run.proofs.FlavorFacts.FlavorsNamed.{named_text}
 use Rattle.ac_run.proofs.wanted.named.flavors.query_named.Goals as goal
 
 pub returns-in-Err-clause-fault : goal.returns-in-Err-clause-fault

@@ -1,5 +1,5 @@
 use Rattle.std.proofs.Common.{◌∙◌, ◌++◌, ap, arith, drop, length-take, take}
-use Rattle.ac_session.proofs.Reads.Rooms.{came, left_grown, left_stays, none_grown, none_pulled, some_grown, stays}
+use Rattle.ac_session.proofs.ReadingFacts.Rooms.{came, left_grown, left_stays, none_grown, none_pulled, some_grown, stays}
 use Rattle.ac_session.proofs.lines.room.Room.fill.Goals as goal
 
 pub returns-in-Got-clause-left : goal.returns-in-Got-clause-left

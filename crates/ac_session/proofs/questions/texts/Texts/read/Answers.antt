@@ -3,7 +3,7 @@ use Rattle.std.specs.Prelude.{Result}
 use Rattle.ac_run.specs.Naming.{TellsNames, token_asked}
 use Rattle.ac_run.specs.Wanted.Named.{and_then, mapped}
 use Rattle.ac_run.specs.declared.refusal.NamesRefusal.{NamesRefusal}
-use Rattle.ac_run.proofs.Refused.Attempted.{tells_on}
+use Rattle.ac_run.proofs.RefusalFacts.Attempted.{tells_on}
 use Rattle.ac_session.specs.Questions.{asked_in}
 use Rattle.ac_session.specs.Turns.Named.{asked_with, query_in, query_told, token_of}
 use Rattle.ac_session.proofs.questions.texts.Texts.read.Goals as goal

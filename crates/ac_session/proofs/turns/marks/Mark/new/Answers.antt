@@ -1,7 +1,7 @@
 use Rattle.std.proofs.Common.{◌≡◌, ◌∙◌, ◌++◌, List, length, ap, ap₂, sym, arith}
 use Rattle.std.specs.List.{flat_map, range_with_len}
 use Rattle.ac_cloud.specs.Cloud.CloudWorld.{providers_of}
-use Rattle.ac_session.proofs.Turning.Differing.{kept_more}
+use Rattle.ac_session.proofs.TurnFacts.Differing.{kept_more}
 use Rattle.ac_session.specs.Held.{Named}
 use Rattle.ac_session.specs.Marks.{Kept, kept_at, kept_of}
 use Rattle.ac_session.proofs.turns.marks.Mark.new.Goals as goal

@@ -1,5 +1,5 @@
 use Rattle.std.proofs.Common.{ℕ, List, ap₂}
-use Rattle.ac_session.proofs.Turning.Names.{named_copied}
+use Rattle.ac_session.proofs.TurnFacts.Names.{named_copied}
 use Rattle.ac_session.proofs.turns.names.Names.copy.Goals as goal
 
 pub returns : goal.returns

@@ -1,5 +1,5 @@
 use Rattle.std.proofs.Common.{None}
-use Rattle.ac_session.proofs.Turning.Names.{named_after}
+use Rattle.ac_session.proofs.TurnFacts.Names.{named_after}
 use Rattle.ac_session.proofs.turns.names.Names.remove.Goals as goal
 
 pub returns : goal.returns

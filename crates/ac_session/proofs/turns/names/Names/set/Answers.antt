@@ -1,6 +1,6 @@
 use Rattle.std.proofs.Common.{◌∙◌, Some, ap}
 use Rattle.ac_session.specs.Held.{claim_shown, named_in, standing}
-use Rattle.ac_session.proofs.Turning.Names.{named_after}
+use Rattle.ac_session.proofs.TurnFacts.Names.{named_after}
 use Rattle.ac_session.proofs.turns.names.Names.set.Goals as goal
 
 pub returns : goal.returns

@@ -1,7 +1,7 @@
 use Rattle.std.proofs.Common.{◌∙◌, List, Option, ℕ, ap, refl, subst, sym}
 use Rattle.ac_run.specs.Naming.{TellsNames, flavors_asked, query_asked, token_asked}
 use Rattle.ac_run.specs.Tasks.{flavors_in, task_of, token_in}
-use Rattle.ac_run.proofs.Refused.Attempted.{tells_on}
+use Rattle.ac_run.proofs.RefusalFacts.Attempted.{tells_on}
 use Rattle.ac_run.proofs.wanted.named.texts.Texts.read.Goals as goal
 
 pub returns-in-Err-clause-fault : goal.returns-in-Err-clause-fault

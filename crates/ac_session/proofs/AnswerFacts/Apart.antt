@@ -1,0 +1,153 @@
+-- Answers are read apart: whatever an answer says, none of its lines begins with `=` as it is written, but the last.
+use Rattle.std.proofs.Common.{◌≡◌, ◌≢◌, ◌∙◌, ℕ, suc, Bool, true, false, List, [], ◌∷◌, ◌++◌, All, Option, Some, None, refl, sym, ap, subst, arith, inl, inr, length, append_assoc, append-nil}
+use Rattle.std.proofs.Math.Seq.{drop-append_seam}
+use Rattle.std.proofs.lemmas.Bool.{and_parts, cases_Bool}
+use Rattle.std.proofs.lemmas.Bool.Decides.{nat_tests}
+use Rattle.std.proofs.lemmas.List.Elements.{All-cons, All-nil}
+use Rattle.std.proofs.lemmas.List.Splits.{slice_split_at}
+use Rattle.std.specs.Prelude.{◌==◌, not, decimal, if◌then◌else◌}
+use Rattle.std.specs.List.{list_all, slice_split}
+use Rattle.ac_rules.specs.Together.{is_empty}
+use Rattle.ac_run.specs.Answer.{Outcome}
+use Rattle.ac_session.specs.Frames.{begins_line, behind_status, end_line, escaped, is_marked, last_newline, lines_written}
+use Rattle.ac_session.specs.Laws.Apart.{AnswersApart, SessionsApart, StoppedApart, answers_of, answers_read, answers_with, ended, first_answer, is_end_line, up_to_end}
+use Rattle.ac_session.specs.Lines.{is_newline}
+use Rattle.ac_session.specs.Tries.{text_with, turn_at}
+use Rattle.ac_session.specs.Turns.{answer_text, session_text, text_of, turn_of}
+use Rattle.ac_session.proofs.AnswerFacts.Escaped.{marked_inner}
+use Rattle.ac_session.proofs.ReadingFacts.Leading.Firsts.{before_plain}
+use Rattle.ac_session.proofs.Plain.{IsPlain, is_inner, plain, plain_byte, plain_joined, plain_number}
+
+-- ---- what is read
+
+byte_is : (byte : ℕ) → is_newline byte ≡ true → byte ≡ 10
+byte_is byte h = grind (arith, nat_tests)
+
+front_lacks : (text : List ℕ) → list_all is_inner text ≡ true → All (λ byte. is_newline byte ≡ false) text
+front_lacks [] h = All-nil (λ byte. is_newline byte ≡ false)
+front_lacks (byte ∷ text) h =
+    let hs = and_parts (is_inner byte) (list_all is_inner text) h in
+    let no : is_newline byte ≡ false = let i = hs.0 in grind (arith, nat_tests) in
+    All-cons (λ byte. is_newline byte ≡ false) byte text no (front_lacks text hs.1)
+
+-- the first line of a text, and the others
+split_line : (front rest : List ℕ) → IsPlain front → slice_split is_newline (front ++ 10 ∷ rest) ≡ front ∷ slice_split is_newline rest
+split_line front rest plain = slice_split_at is_newline front 10 rest (front_lacks front plain.is) refl
+
+-- a line that ends no answer, and what stands behind it
+pass_line : (front rest : List ℕ) → IsPlain front → is_end_line front ≡ false → first_answer (front ++ 10 ∷ rest) ≡ (front ++ 10 ∷ []) ++ first_answer rest
+pass_line front rest plain clear = rw (split_line front rest plain, clear) refl
+
+-- the line that ends an answer
+reads_end : (front rest : List ℕ) → IsPlain front → first_answer ((61 ∷ (front ++ 10 ∷ [])) ++ rest) ≡ 61 ∷ (front ++ 10 ∷ [])
+reads_end front rest plain =
+    ap (λ (l : List ℕ). first_answer (61 ∷ l)) (append_assoc front (10 ∷ []) rest)
+    ∙ ap (λ lines. ended (up_to_end lines)) (split_line (61 ∷ front) rest (plain_byte refl plain))
+    ∙ append-nil (61 ∷ (front ++ 10 ∷ []))
+
+-- ---- what is written
+
+abbrev is_started : List ℕ → Bool
+is_started [] = false
+is_started (byte ∷ front) = true
+
+-- the lines of a text, at the beginning of a line or within one
+abbrev lines_from : Bool → List ℕ → List ℕ
+lines_from begins text = escaped begins text ++ last_newline (begins_line begins text)
+
+plain_clear : (byte : ℕ) → is_marked byte ≡ false → (byte == 61) ≡ false
+plain_clear byte h = grind (arith, nat_tests)
+
+first_marked : (byte : ℕ) (text : List ℕ) → is_marked byte ≡ true → lines_from true (byte ∷ text) ≡ 32 ∷ byte ∷ lines_from false text
+first_marked byte text h = rw (h, marked_inner byte h) refl
+
+first_other : (b : Bool) (byte : ℕ) (text : List ℕ) → is_marked byte ≡ false → (n : Bool) → is_newline byte ≡ n → lines_from b (byte ∷ text) ≡ byte ∷ lines_from n text
+first_other true byte text h n e = rw (h, e) refl
+first_other false byte text h n e = rw e refl
+
+next_inner : (byte : ℕ) (text : List ℕ) (n : Bool) → is_newline byte ≡ n → lines_from false (byte ∷ text) ≡ byte ∷ lines_from n text
+next_inner byte text n h = rw h refl
+
+module _ (rest : List ℕ) where
+  -- what is read behind the begin of a line that ends no answer
+  abbrev Passes : List ℕ → List ℕ → Type 0
+  Passes front written = first_answer (front ++ (written ++ rest)) ≡ front ++ (written ++ first_answer rest)
+
+  moved : (front : List ℕ) (byte : ℕ) (written : List ℕ) → Passes (front ++ byte ∷ []) written → Passes front (byte ∷ written)
+  moved front byte written h = ap first_answer (sym (append_assoc front (byte ∷ []) (written ++ rest))) ∙ h ∙ append_assoc front (byte ∷ []) (written ++ first_answer rest)
+
+  passed : (text front : List ℕ) → IsPlain front → is_end_line front ≡ false → Passes front (lines_from (not (is_started front)) text)
+  passed [] [] clean clear = refl
+  passed [] (first ∷ front) clean clear = pass_line (first ∷ front) rest clean clear ∙ append_assoc (first ∷ front) (10 ∷ []) (first_answer rest)
+  passed (byte ∷ text) [] clean clear = elim (cases_Bool (is_marked byte)) [
+    | inl marked ↦
+        subst (Passes []) (sym (first_marked byte text marked))
+        (passed text (32 ∷ byte ∷ []) (plain_byte refl (plain_byte (ap not (marked_inner byte marked)) clean)) refl)
+    | inr other ↦ elim (cases_Bool (is_newline byte)) [
+      | inl ends ↦
+          subst (Passes []) (sym (first_other true byte text other true ends))
+          (subst (λ (b : ℕ). Passes [] (b ∷ lines_from true text)) (sym (byte_is byte ends))
+          (pass_line [] (lines_from true text ++ rest) clean refl ∙ ap (λ (l : List ℕ). 10 ∷ l) (passed text [] clean refl)))
+      | inr inner ↦
+          subst (Passes []) (sym (first_other true byte text other false inner)) (passed text (byte ∷ []) (plain_byte (ap not inner) clean) (plain_clear byte other))
+    ]
+  ]
+  passed (byte ∷ text) (first ∷ front) clean clear = elim (cases_Bool (is_newline byte)) [
+    | inl ends ↦
+        subst (Passes (first ∷ front)) (sym (next_inner byte text true ends))
+        (subst (λ (b : ℕ). Passes (first ∷ front) (b ∷ lines_from true text)) (sym (byte_is byte ends))
+        (pass_line (first ∷ front) (lines_from true text ++ rest) clean clear
+        ∙ ap (λ (l : List ℕ). ((first ∷ front) ++ 10 ∷ []) ++ l) (passed text [] (plain refl) refl)
+        ∙ append_assoc (first ∷ front) (10 ∷ []) (lines_from true text ++ first_answer rest)))
+    | inr inner ↦
+        subst (Passes (first ∷ front)) (sym (next_inner byte text false inner))
+        (moved (first ∷ front) byte (lines_from false text) (passed text (first ∷ (front ++ byte ∷ [])) (plain_joined clean (plain_byte (ap not inner) (plain refl))) clear))
+  ]
+
+behind_plain : (line : List ℕ) → IsPlain (behind_status line)
+behind_plain [] = plain refl
+behind_plain (byte ∷ line) = plain_byte refl (plain (before_plain is_newline (byte ∷ line)))
+
+answer_read : (o : Outcome) (rest : List ℕ) → first_answer (answer_text (Some o) ++ rest) ≡ answer_text (Some o)
+answer_read o rest =
+    let told = 32 ∷ (decimal o.status ++ behind_status o.line) in
+    let clean : IsPlain told = plain_byte refl (plain_joined (plain_number o.status) (behind_plain o.line)) in
+    let last = end_line o.status o.line in
+    let whole : last ≡ 61 ∷ (told ++ 10 ∷ []) = ap (λ (l : List ℕ). 61 ∷ 32 ∷ l) (sym (append_assoc (decimal o.status) (behind_status o.line) (10 ∷ []))) in
+    ap first_answer (append_assoc (lines_written o.output) last rest)
+    ∙ passed (last ++ rest) o.output [] (plain refl) refl
+    ∙ ap (λ (l : List ℕ). lines_written o.output ++ l) (ap (λ (l : List ℕ). first_answer (l ++ rest)) whole ∙ reads_end told rest clean ∙ sym whole)
+
+any_read : (answer : Option Outcome) → answer_text answer ≢ [] → (rest : List ℕ) → first_answer (answer_text answer ++ rest) ≡ answer_text answer
+any_read None some rest = absurd (some refl)
+any_read (Some o) some rest = answer_read o rest
+
+pub answers_apart : AnswersApart
+answers_apart terms held given = any_read (turn_of terms held given).answer
+
+-- ---- one after another
+
+one_read : (text rest : List ℕ) (n : ℕ) (others : List (List ℕ)) → first_answer (text ++ rest) ≡ text → answers_read n rest ≡ others → answers_read (suc n) (text ++ rest) ≡ text ∷ others
+one_read text rest n others first later =
+    rw first (ap (λ (l : List ℕ). text ∷ answers_read n l) (drop-append_seam text rest) ∙ ap (λ (l : List (List ℕ)). text ∷ l) later)
+
+turn_read : (text rest : List ℕ) (others : List (List ℕ)) → (text ≢ [] → (rest : List ℕ) → first_answer (text ++ rest) ≡ text) → answers_read (length others) rest ≡ others
+    → answers_read (length (if is_empty text then others else text ∷ others)) (text ++ rest) ≡ (if is_empty text then others else text ∷ others)
+turn_read [] rest others apart later = later
+turn_read (byte ∷ text) rest others apart later = one_read (byte ∷ text) rest (length others) others (apart (λ e. absurd cc) rest) later
+
+pub sessions_apart : SessionsApart
+sessions_apart terms held [] = refl
+sessions_apart terms held (given ∷ others) =
+    let turn = turn_of terms held given in
+    turn_read (text_of turn) (session_text terms turn.state others) (answers_of terms turn.state others) (answers_apart terms held given)
+    (sessions_apart terms turn.state others)
+
+-- where searches stopped as well
+pub stopped_apart : StoppedApart
+stopped_apart terms held [] lines = sessions_apart terms held lines
+stopped_apart terms held (stop ∷ stops) [] = refl
+stopped_apart terms held (stop ∷ stops) (given ∷ others) =
+    let turn = turn_at terms held stop given in
+    turn_read (text_of turn) (text_with terms turn.state stops others) (answers_with terms turn.state stops others) (any_read turn.answer)
+    (stopped_apart terms turn.state stops others)
