@@ -33,5 +33,10 @@ returns-clause-session c = λ short b holds.
       status = left.status;
     }
 
-pub returns-clause-stopped : goal.returns-clause-stopped
-returns-clause-stopped c = search (rules)
+pub returns-then-status-eq8-clause-stopped : goal.returns-then-status-eq8-clause-stopped
+returns-then-status-eq8-clause-stopped c = λ is form task b asks.
+    task_stopped c.new-questions.result (words_shown c.args.words.now) (files_shown c.args.files.now) _ _ (omega arith) b (λ given same. same) form task asks c.answer-status.ensures.ends
+
+pub returns-then-status-eq8-clause-held : goal.returns-then-status-eq8-clause-held
+returns-then-status-eq8-clause-held c = λ is b holds.
+    none_held c.new-questions.result (words_shown c.args.words.now) (files_shown c.args.files.now) _ _ (omega arith) b (λ given same. same) holds c.answer-status.ensures.ends

@@ -1,7 +1,7 @@
 use Rattle.ac_cli.proofs.program.answer_headers.Goals as goal
 
-pub returns : goal.returns
-returns g c =
+pub returns-clause-ran : goal.returns-clause-ran
+returns-clause-ran g c =
     record {
       untabled = c.requires;
       from = c.headers-inputs.result;

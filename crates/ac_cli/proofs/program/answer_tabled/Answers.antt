@@ -1,8 +1,8 @@
-use Rattle.std.proofs.Common.{subst, ◌≡◌, ◌∙◌, Bool, true, false, arith, if◌then◌else◌, inl, inr, refl, sym}
+use Rattle.std.proofs.Common.{subst, ◌≡◌, ◌∙◌, ℕ, List, Option, Bool, true, false, arith, if◌then◌else◌, inl, inr, refl, sym}
 use Rattle.ac_run.specs.Tasks.{changes_shown}
 use Rattle.ac_words.specs.Words.{Line, calls_answer, file_called}
-use Rattle.ac_cli.specs.Files.{HoldsNames}
-use Rattle.ac_cli.specs.Program.{beside_called, path_beside}
+use Rattle.ac_cli.specs.Files.{HoldsChanges, HoldsNames}
+use Rattle.ac_cli.specs.Program.{AreReadBefore, beside_called, path_beside}
 use Rattle.ac_cli.specs.declared.files.Beside.TheVariants as beside
 use Rattle.ac_cli.proofs.program.answer_tabled.Goals as goal
 
@@ -22,13 +22,40 @@ not_names line = by (calls_answer line.call)
     by true is = absurd cc
     by false is = absurd cc
 
-pub returns-in-Err-names_of : goal.returns-in-Err-names_of
-returns-in-Err-names_of g c =
+-- where its bytes can't be had, the changes and the names were read
+module _ {R : Type 0} (opens : List ℕ → R → Type 0) (refuses : List ℕ → List ℕ → Type 0) (remaining : R → Option (List ℕ)) (line : Line) (changes names : Option (List ℕ))
+    (changed : HoldsChanges opens remaining line.changes changes) (named : HoldsNames opens refuses remaining line.names line.aggregate_names names) where
+  own_before : AreReadBefore opens refuses remaining line (beside_called line.call)
+  own_before = by (calls_answer line.call)
+    where
+      by : (b : Bool) → AreReadBefore opens refuses remaining line (if b then beside.Answer else beside.Flavors)
+      by true = (changes, names, changed, named)
+      by false = (changes, names, changed, named)
+
+pub returns-in-Err-changes_of-clause-ends : goal.returns-in-Err-changes_of-clause-ends
+returns-in-Err-changes_of-clause-ends g c =
+    inr (inl (record {
+      tables = c.in-Ok.inputs;
+      files = rw (← c.paths-paths.ensures) c.in-Ok.ensures.files;
+      of = beside.Changes;
+      before = tt;
+      one = (0, omega arith, refl);
+      there = λ names. absurd cc;
+      path = c.in-Err-changes_of.path.now;
+      named = c.in-Err-changes_of.ensures.fault.0;
+      why = c.in-Err-changes_of.unread;
+      because = c.in-Err-changes_of.ensures.fault.1;
+      told = rw (← c.detail_of-detail.ensures) c.tell_unread-status.ensures;
+      output = refl;
+    }))
+
+pub returns-in-Err-names_of-clause-ends : goal.returns-in-Err-names_of-clause-ends
+returns-in-Err-names_of-clause-ends g c =
     inr (inl (record {
       tables = c.in-Ok.inputs;
       files = rw (← c.paths-paths.ensures) c.in-Ok.ensures.files;
       of = beside.Names;
-      before = (changes_shown c.in-Ok-changes_of.changes, c.in-Ok-changes_of.ensures.held);
+      before = (_, c.in-Ok-changes_of.ensures.held);
       one = (1, omega arith, refl);
       there = λ _. c.in-Err-names_of.ensures.fault.1;
       path = c.in-Err-names_of.path.now;
@@ -39,10 +66,13 @@ returns-in-Err-names_of g c =
       output = refl;
     }))
 
-pub returns-in-Err-file_of : goal.returns-in-Err-file_of
-returns-in-Err-file_of g c =
+pub returns-in-Err-file_of-clause-ends : goal.returns-in-Err-file_of-clause-ends
+returns-in-Err-file_of-clause-ends g c =
     inr (inl (record {
+      tables = c.in-Ok.inputs;
+      files = rw (← c.paths-paths.ensures) c.in-Ok.ensures.files;
       of = beside_called c.args.words.now.call;
+      before = own_before (g.H.Host.opens c.args.host.now) (g.H.Host.refuses c.args.host.now) g.H.File.Feed.remaining c.args.words.now _ _ c.in-Ok-changes_of.ensures.held c.in-Ok-names_of.ensures.held;
       one = (2, omega arith, refl);
       there = λ names. absurd (not_names c.args.words.now names);
       path = c.in-Err-file_of.path.now;
@@ -53,8 +83,8 @@ returns-in-Err-file_of g c =
       output = refl;
     }))
 
-pub returns : goal.returns
-returns g c =
+pub returns-clause-ends : goal.returns-clause-ends
+returns-clause-ends g c =
     inr (inr (record {
       from = c.in-Ok.inputs;
       to = c.answer_opened.new.inputs;
