@@ -1,15 +1,14 @@
 //! Names that share their texts.
-ghost use Rattle.std.specs.Prelude.{◌≡◌, Some, None, Ok, IfOk, IsTrue};
+ghost use Rattle.std.specs.Prelude.{◌≡◌, Some, None, Ok, IfOk, IfSome, IsTrue};
 ghost use Rattle.std.specs.Option.{option_map};
 ghost use Rattle.ac_base.specs.Texts.{id_value, is_name, name_value};
 ghost use Rattle.std.specs.Rc.{rc_str_bytes};
-ghost use Rattle.std.specs.Str.{IsUtf8};
 
 use super::NoMemory;
 use super::texts::{as_text, is_name};
 use crate::id::Id;
 use std::alloc::Global;
-use std::collections::BTreeSet;
+use std::mem;
 use std::rc::RcStr;
 
 /// Names that were read, as those of a table. Equal ones share one text, so a name that stands a thousand times takes
@@ -17,8 +16,8 @@ use std::rc::RcStr;
 #[derive(Drop)]
 pub struct Names {
     alloc: Global,
-    texts: BTreeSet<RcStr>,
-    recent: Vec<Option<KnownName>>,
+    kept: Vec<Option<KnownName>>,
+    count: usize,
     last: Option<ReadId>,
 }
 
@@ -30,26 +29,36 @@ struct ReadId {
     ghost reads: { id_value text ≡ Some id },
 }
 
-// How many names that were read lately are kept.
-const RECENT: usize = 256;
+// How many places for names there are at first.
+const FIRST: usize = 256;
 
-// How many bytes at the end of a name tell where it is kept.
-const TOLD_BY: usize = 4;
+// How many places a name may stand at: the one that its hash tells, and those behind it.
+const PLACES: usize = 8;
 
 // The text of a name, which equal names share.
 #[derive(Drop)]
 struct KnownName {
     text: RcStr,
+    hash: usize,
     ghost named: { IsTrue (is_name (rc_str_bytes text)) },
 }
 
-// Where a name is kept that was read lately.
-fn recent_index(text: &[u8]) -> usize {
-    let mut hash = text.len();
-    for byte in &text[text.len().saturating_sub(TOLD_BY)..] {
-        hash = hash.wrapping_mul(31).wrapping_add(*byte as usize);
+// Up to eight bytes as one number.
+fn word_of(bytes: &[u8]) -> u64 {
+    let mut word = 0;
+    for byte in bytes {
+        word = word << 8 | u64::from(*byte);
     }
-    hash % RECENT
+    word
+}
+
+// A number of a text that few other texts have.
+fn hash_of(text: &[u8]) -> usize {
+    let mut hash = text.len() as u64;
+    for word in text.chunks(8) {
+        hash = (hash.rotate_left(5) ^ word_of(word)).wrapping_mul(0x9E37_79B9_7F4A_7C15);
+    }
+    (hash >> 32) as usize
 }
 
 impl Names {
@@ -57,8 +66,8 @@ impl Names {
     pub fn new(alloc: Global) -> Names {
         Names {
             alloc,
-            texts: BTreeSet::new(alloc),
-            recent: Vec::new(alloc),
+            kept: Vec::new(alloc),
+            count: 0,
             last: None,
         }
     }
@@ -85,32 +94,55 @@ impl Names {
         }
     }
 
-    // The text that equal names share, looked for among all names.
-    fn find(&mut self, text: &[u8]) -> Result<RcStr, NoMemory>
-        requires { IsUtf8 text.now }
-        ensures { IfOk result (λ shared. rc_str_bytes shared ≡ text.now) }
+    // The text that equal names share, where there is one.
+    fn find(&self, hash: usize, text: &[u8]) -> Option<&RcStr>
+        ensures same { IfSome result (λ shared. rc_str_bytes shared.now ≡ text.now) }
+        ensures named { IfSome result (λ shared. IsTrue (is_name (rc_str_bytes shared.now))) }
     {
-        let text = as_text(text);
-        if let Some(known) = self.texts.get(text) {
-            return Ok(known.clone()?);
-        }
-        let new = RcStr::from_str(self.alloc, text)?;
-        self.texts.insert(new.clone()?)?;
-        Ok(new)
-    }
-
-    // Keeps a name where it is looked for first.
-    fn keep(&mut self, index: usize, shared: &RcStr) -> Result<(), NoMemory>
-        requires { IsTrue (is_name (rc_str_bytes shared.now)) }
-    {
-        if self.recent.is_empty() {
-            for _ in 0..RECENT {
-                self.recent.push(None)?;
+        for step in 0..PLACES {
+            let index = hash.wrapping_add(step).checked_rem(self.kept.len())?;
+            match self.kept.get(index) {
+                Some(Some(known)) if known.text.as_str().as_bytes() == text => {
+                    return Some(&known.text);
+                }
+                Some(Some(_)) => {}
+                _ => return None,
             }
         }
-        if let Some(place) = self.recent.get_mut(index) {
-            let text = shared.clone()?;
-            *place = Some(KnownName { text });
+        None
+    }
+
+    // Keeps a name at the first of its places that is free, or in place of the one at the first.
+    fn keep(&mut self, known: KnownName) {
+        let len = self.kept.len();
+        let mut free = 0;
+        for step in 0..PLACES {
+            let index = known.hash.wrapping_add(step).checked_rem(len).unwrap_or(0);
+            if let Some(None) = self.kept.get(index) {
+                free = step;
+                break;
+            }
+        }
+        let index = known.hash.wrapping_add(free).checked_rem(len).unwrap_or(0);
+        if let Some(place) = self.kept.get_mut(index) {
+            *place = Some(known);
+            self.count = self.count.saturating_add(1);
+        }
+    }
+
+    // Makes twice as many places, and keeps the names at theirs.
+    fn widen(&mut self) -> Result<(), NoMemory> {
+        let size = FIRST.max(self.kept.len().saturating_mul(2));
+        let mut wider = Vec::new(self.alloc);
+        for _ in 0..size {
+            wider.push(None)?;
+        }
+        let kept = mem::replace(&mut self.kept, wider);
+        self.count = 0;
+        for known in kept {
+            if let Some(known) = known {
+                self.keep(known);
+            }
         }
         Ok(())
     }
@@ -121,17 +153,19 @@ impl Names {
         ensures value { IfOk result (λ name. option_map rc_str_bytes name ≡ name_value text.now) }
         ensures unnamed { name_value text.now ≡ None → result ≡ Ok None }
     {
-        let index = recent_index(text);
-        if let Some(Some(known)) = self.recent.get(index) {
-            if known.text.as_str().as_bytes() == text {
-                return Ok(Some(known.text.clone()?));
-            }
+        let hash = hash_of(text);
+        if let Some(known) = self.find(hash, text) {
+            return Ok(Some(known.clone()?));
         }
         if !is_name(text) {
             return Ok(None);
         }
-        let shared = self.find(text)?;
-        self.keep(index, &shared)?;
+        let shared = RcStr::from_str(self.alloc, as_text(text))?;
+        if self.count >= self.kept.len() / 2 {
+            self.widen()?;
+        }
+        let text = shared.clone()?;
+        self.keep(KnownName { text, hash });
         Ok(Some(shared))
     }
 }
