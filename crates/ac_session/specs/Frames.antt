@@ -1,5 +1,5 @@
 -- An answer as a session writes it: its lines, none of which begins with `=`, and the line that ends it.
-use Rattle.std.specs.Prelude.{ℕ, ◌==◌, ◌||◌, Bool, true, false, List, [], ◌∷◌, ◌++◌, codes, if◌then◌else◌}
+use Rattle.std.specs.Prelude.{ℕ, ◌==◌, ◌||◌, Bool, true, false, List, [], ◌∷◌, ◌++◌, codes, Option, None, Some, if◌then◌else◌}
 use Rattle.std.specs.Fmt.{decimal}
 use Rattle.ac_session.specs.Lines.{first_line, is_newline, newline}
 
@@ -35,6 +35,21 @@ abbrev pub behind_status : List ℕ → List ℕ
 behind_status [] = []
 behind_status (byte ∷ line) = 32 ∷ first_line (byte ∷ line)
 
+-- what it begins with: the tag of what is answered, where that has one
+abbrev pub begin_of : Option (List ℕ) → List ℕ
+begin_of None = codes "= "
+begin_of (Some tag) = codes "= " ++ (tag ++ 32 ∷ [])
+
 -- the status of an answer, and the line of its fault, where it has one
-abbrev pub end_line : ℕ → List ℕ → List ℕ
-end_line status line = codes "= " ++ (decimal status ++ (behind_status line ++ newline ∷ []))
+abbrev pub end_behind : ℕ → List ℕ → List ℕ
+end_behind status line = decimal status ++ (behind_status line ++ newline ∷ [])
+
+-- what stands behind the begin of the line, where something is answered
+abbrev pub behind_begin : Option (ℕ × List ℕ) → List ℕ
+behind_begin None = []
+behind_begin (Some end) = end_behind end.0 end.1
+
+-- the line, where something is answered
+abbrev pub end_text : Option (List ℕ) → Option (ℕ × List ℕ) → List ℕ
+end_text tag None = []
+end_text tag (Some end) = begin_of tag ++ end_behind end.0 end.1

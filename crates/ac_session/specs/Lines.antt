@@ -1,5 +1,5 @@
 -- Lines of bytes: what stands before the first newline, and what stands behind it.
-use Rattle.std.specs.Prelude.{ℕ, ◌==◌, Bool, nat_lt, List, length, if◌then◌else◌}
+use Rattle.std.specs.Prelude.{ℕ, ◌==◌, ◌||◌, Bool, false, nat_lt, List, [], ◌∷◌, length, Option, None, Some, if◌then◌else◌}
 use Rattle.std.specs.List.{before_first, after_first}
 use Rattle.std.specs.Io.BufRead.{strip_last}
 
@@ -39,3 +39,27 @@ pub data Given : Type 0 where
 abbrev pub given_first : List ℕ → Given
 given_first bytes =
     if length bytes == 0 then end else if nat_lt most_bytes (length (first_line bytes)) then too_long else line (without_return (first_line bytes))
+
+-- ---- tags
+
+-- a line may begin with a tag, a word that begins with `@`
+abbrev pub is_tagged : List ℕ → Bool
+is_tagged [] = false
+is_tagged (byte ∷ bytes) = byte == 64
+
+-- the byte behind it
+abbrev pub ends_tag : ℕ → Bool
+ends_tag byte = byte == 32 || is_newline byte
+
+-- the tag of a line, where it has one, and what stands behind it
+abbrev pub tag_of : List ℕ → Option (List ℕ)
+tag_of line = if is_tagged line then Some (before_first ends_tag line) else None
+
+abbrev pub behind_tag : List ℕ → List ℕ
+behind_tag line = if is_tagged line then after_first ends_tag line else line
+
+-- the tag of what bytes give; that of a line that is too long isn't kept
+abbrev pub tag_in : Given → Option (List ℕ)
+tag_in (line text) = tag_of text
+tag_in too_long = None
+tag_in end = None

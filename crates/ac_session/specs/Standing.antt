@@ -1,5 +1,7 @@
 -- Where a session stands between its questions.
 use Rattle.std.specs.Prelude.{◌≡◌, ◌⊎◌, ℕ, ◌+◌, ◌≤◌, List, [], ◌∷◌, ◌++◌, codes, decimal, length, Option, None, Some, Result, Ok, Err, IfErr, IfOk, OnErr, OnOk, if◌then◌else◌}
+use denote.Ref.{Bor}
+use Rattle.std.specs.Option.{option_map}
 use Rattle.std.specs.Io.KnownBytes.{Appends, append_known}
 use Rattle.ac_base.specs.Devices.{Rises, TakesPart}
 use Rattle.ac_base.specs.Gathered.{IsFirstPart}
@@ -8,11 +10,11 @@ use Rattle.ac_run.specs.Lines.{memory_line, names_line, output_line, tries_line}
 use Rattle.ac_run.specs.Refusals.{line_of_asked, status_of_asked, status_of_names}
 use Rattle.ac_run.specs.declared.refusal.AskRefusal.{AskRefusal}
 use Rattle.ac_run.specs.declared.refusal.AskRefusal.TheVariants as ask
-use Rattle.ac_session.specs.Frames.{end_line}
+use Rattle.ac_session.specs.Frames.{end_text}
 use Rattle.ac_session.specs.Held.{Claim, Held, Named, standing}
 use Rattle.ac_session.specs.Questions.LineFaults.{fault_line, fault_status}
 use Rattle.ac_session.specs.Sessions.{questions_line}
-use Rattle.ac_session.specs.Lines.{Given}
+use Rattle.ac_session.specs.Lines.{Given, tag_in}
 use Rattle.ac_session.specs.Tries.{AreStops, MayStopAt, text_with, turn_at}
 use Rattle.ac_session.specs.Turns.{Turn, end_of, is_done, lines_in, output_of, status_of, text_of}
 use Rattle.ac_session.specs.Turns.Named.{Terms}
@@ -39,16 +41,24 @@ pub record Stands (tries : Option ℕ) (terms : Terms) (first : Held) (questions
 
 -- what stands before the line of a refusal
 unfoldable pub mark_of : ℕ → List ℕ
-mark_of status = codes "= " ++ (decimal status ++ 32 ∷ [])
+mark_of status = decimal status ++ 32 ∷ []
 
--- the line that an ending writes
-abbrev pub end_told : Ending → List ℕ
-end_told (ending.Given status) = end_line status []
-end_told (ending.Refused refusal) = end_line (status_of_asked refusal) (line_of_asked refusal)
-end_told (ending.Unnamed why) = end_line (status_of_names why) (names_line why)
-end_told (ending.Faulted f) = end_line fault_status (fault_line f)
-end_told ending.Unasked = []
-end_told ending.Stopped = end_line 8 tries_line
+-- what an ending says: its status and its line, where something is answered
+abbrev pub end_said : Ending → Option (ℕ × List ℕ)
+end_said (ending.Given status) = Some (status, [])
+end_said (ending.Refused refusal) = Some (status_of_asked refusal, line_of_asked refusal)
+end_said (ending.Unnamed why) = Some (status_of_names why, names_line why)
+end_said (ending.Faulted f) = Some (fault_status, fault_line f)
+end_said ending.Unasked = None
+end_said ending.Stopped = Some (8, tries_line)
+
+-- a tag, where there is one
+abbrev pub tag_shown : Option (Bor (List ℕ)) → Option (List ℕ)
+tag_shown tag = option_map (λ t. t.now) tag
+
+-- the line that it writes for a line with this tag
+abbrev pub end_told : Option (List ℕ) → Ending → List ℕ
+end_told tag ending = end_text tag (end_said ending)
 
 -- its status, where something is answered
 abbrev pub status_told : Ending → Option ℕ
@@ -67,7 +77,7 @@ ending_in (Err e) = Err e
 -- The output of an answer was written whole, and this is how it ends.
 pub record IsGiven (answer : Option Outcome) (old new : Option (List ℕ)) (ending : Ending) : Type 0 where
   pub output : Appends old new (output_of answer)
-  pub ends : end_told ending ≡ end_of answer
+  pub ends : end_said ending ≡ end_of answer
   pub status : status_told ending ≡ status_of answer
 
 -- What an ending says of an answer: where its search stopped, which it may, a first part of its output was written; else it was given.
@@ -109,9 +119,9 @@ pub record IsNamed (name : List ℕ) (made : Option Claim) (answered result : Re
 pub record Answers {T : Type 0} (tries : Option ℕ) (terms : Terms) (first : Held) (given : Given) (result : Result T AnswerFault) (now : Held) (old new : Option (List ℕ)) : Type 0 where
   pub stop : Option (List ℕ)
   pub may : MayStopAt tries terms first given stop
-  pub ok : OnOk result (Appends old new (text_of (turn_at terms first stop given)))
+  pub ok : OnOk result (Appends old new (text_of (tag_in given) (turn_at terms first stop given)))
   pub state : OnOk result (now ≡ (turn_at terms first stop given).state)
-  pub part : IsFirstPart (append_known old (text_of (turn_at terms first stop given))) new
+  pub part : IsFirstPart (append_known old (text_of (tag_in given) (turn_at terms first stop given))) new
 
 -- an outcome is this refusal; of want of memory nothing is said
 abbrev pub IsRefusal : AskRefusal → Outcome → Type 0

@@ -10,7 +10,7 @@ use Rattle.ac_run.specs.Tasks.{Task}
 use Rattle.ac_run.specs.declared.refusal.NamesRefusal.{NamesRefusal}
 use Rattle.ac_search.specs.Shown.Walk.{MayStop}
 use Rattle.ac_session.specs.Held.{Held}
-use Rattle.ac_session.specs.Lines.{Given, line, too_long, end}
+use Rattle.ac_session.specs.Lines.{Given, line, too_long, end, behind_tag, tag_in}
 use Rattle.ac_session.specs.Questions.{Asked, Text, job, fill, place, claim, release, release_name, move, mark, back, usages, left_at, help, nothing, unknown, wrong_number, asked_of}
 use Rattle.ac_session.specs.Turns.{Turn, answers, lines_in, output_of, place_line, session_text, text_of, turn_of}
 use Rattle.ac_session.specs.Turns.Named.{Terms, are_named, asked_told, named_task}
@@ -68,7 +68,7 @@ AskedMayStop tries terms held asked = ToldMayStop tries terms held (asked_told t
 
 -- a search for what bytes give
 unfoldable pub GivenMayStop : Option ℕ → Terms → Held → Given → Type 0
-GivenMayStop tries terms held (line text) = AskedMayStop tries terms held (asked_of terms.version text)
+GivenMayStop tries terms held (line text) = AskedMayStop tries terms held (asked_of terms.version (behind_tag text))
 GivenMayStop tries terms held too_long = ⊥
 GivenMayStop tries terms held end = ⊥
 
@@ -96,7 +96,7 @@ abbrev pub text_with : Terms → Held → List (Option (List ℕ)) → List Give
 text_with terms held [] lines = session_text terms held lines
 text_with terms held (stop ∷ stops) [] = []
 text_with terms held (stop ∷ stops) (given ∷ others) =
-    text_of (turn_at terms held stop given) ++ text_with terms (turn_at terms held stop given).state stops others
+    text_of (tag_in given) (turn_at terms held stop given) ++ text_with terms (turn_at terms held stop given).state stops others
 
 -- The searches of lines may stop so, each over what is held when its line is answered.
 abbrev pub AreStops : Option ℕ → Terms → Held → List (Option (List ℕ)) → List Given → Type 0

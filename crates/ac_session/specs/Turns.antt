@@ -26,9 +26,9 @@ use Rattle.ac_run.specs.Lines.{names_line, token_line}
 use Rattle.ac_run.specs.Refusals.{status_of_names}
 use Rattle.ac_run.specs.declared.refusal.NamesRefusal.{NamesRefusal}
 use Rattle.ac_run.specs.Outputs.{verdict_text}
-use Rattle.ac_session.specs.Frames.{end_line, lines_written}
+use Rattle.ac_session.specs.Frames.{end_text, lines_written}
 use Rattle.ac_session.specs.Questions.LineFaults.{fault_line, fault_status}
-use Rattle.ac_session.specs.Lines.{Given, line, too_long, end, is_newline, most_bytes, without_return}
+use Rattle.ac_session.specs.Lines.{Given, line, too_long, end, behind_tag, is_newline, most_bytes, tag_in, without_return}
 use Rattle.ac_session.specs.Helps.{help_text}
 use Rattle.ac_session.specs.LeftRows.{left_answer}
 use Rattle.ac_session.specs.Held.{Claim, Held, Mark, marked, standing}
@@ -51,18 +51,18 @@ abbrev pub output_of : Option Outcome → List ℕ
 output_of None = []
 output_of (Some o) = o.output
 
--- the line that ends an answer
-abbrev pub end_of : Option Outcome → List ℕ
-end_of None = []
-end_of (Some o) = end_line o.status o.line
+-- how an answer ends: its status and its line
+abbrev pub end_of : Option Outcome → Option (ℕ × List ℕ)
+end_of None = None
+end_of (Some o) = Some (o.status, o.line)
 
--- what is written of an answer: the lines of its output, and the line that ends it
-abbrev pub answer_text : Option Outcome → List ℕ
-answer_text answer = lines_written (output_of answer) ++ end_of answer
+-- what is written of an answer to a line with this tag: the lines of its output, and the line that ends it
+abbrev pub answer_text : Option (List ℕ) → Option Outcome → List ℕ
+answer_text tag answer = lines_written (output_of answer) ++ end_text tag (end_of answer)
 
 -- what is written for a question
-abbrev pub text_of : {S : Type 0} → Turn S → List ℕ
-text_of turn = answer_text turn.answer
+abbrev pub text_of : {S : Type 0} → Option (List ℕ) → Turn S → List ℕ
+text_of tag turn = answer_text tag turn.answer
 
 -- an answer, and nothing changes
 abbrev pub answers : {S : Type 0} → S → Outcome → Turn S
@@ -295,9 +295,9 @@ turn_told terms held (Err why) = answers held (refused (names_line why) (status_
 abbrev pub turn_asked : Terms → Held → Asked → Turn Held
 turn_asked terms held asked = turn_told terms held (asked_told terms held.world asked)
 
--- the turn of what bytes give
+-- the turn of what bytes give; of a line, of what stands behind its tag
 unfoldable pub turn_of : Terms → Held → Given → Turn Held
-turn_of terms held (line text) = turn_asked terms held (asked_of terms.version text)
+turn_of terms held (line text) = turn_asked terms held (asked_of terms.version (behind_tag text))
 turn_of terms held too_long = answers held (faulted fault.TooLong)
 turn_of terms held end = passes held
 
@@ -315,4 +315,4 @@ lines_in bytes = map given_line (slice_split is_newline bytes)
 abbrev pub session_text : Terms → Held → List Given → List ℕ
 session_text terms held [] = []
 session_text terms held (given ∷ others) =
-    text_of (turn_of terms held given) ++ session_text terms (turn_of terms held given).state others
+    text_of (tag_in given) (turn_of terms held given) ++ session_text terms (turn_of terms held given).state others

@@ -13,8 +13,8 @@ ghost use Rattle.ac_run.specs.Refusals.{line_of_asked, status_of_asked, status_o
 ghost use Rattle.ac_run.specs.declared.refusal.NamesRefusal as names;
 ghost use Rattle.ac_run.specs.Run.{Delivers};
 ghost use Rattle.ac_session.specs.Escapes.{begun};
-ghost use Rattle.ac_session.specs.Frames.{lines_written};
-ghost use Rattle.ac_session.specs.Standing.{Gives, IsRefusal, TakesTurn, end_told, mark_of, status_told};
+ghost use Rattle.ac_session.specs.Frames.{begin_of, behind_begin, lines_written};
+ghost use Rattle.ac_session.specs.Standing.{Gives, IsRefusal, TakesTurn, end_said, end_told, mark_of, status_told, tag_shown};
 ghost use Rattle.ac_session.specs.Held.{Held};
 ghost use Rattle.ac_session.specs.Questions.{Asked};
 ghost use Rattle.ac_session.specs.Turns.{is_done, output_of, settles, turn_told};
@@ -77,15 +77,23 @@ impl From<NoMemory> for AnswerFault {
     }
 }
 
+// What begins the line that ends an answer, to a line with a tag or without one.
+fn push_begin<W: Sink>(out: &mut W, tag: Option<&[u8]>) -> Result<(), WriteFailed>
+    ensures { Pushes W.taken W.failures out.old out.new result
+        (begin_of (tag_shown tag.entry)) }
+{
+    match tag {
+        Some(tag) => push_pieces(out, &[b"= ", tag, b" "]),
+        None => push_all(out, b"= "),
+    }
+}
+
 // What stands before the line of a refusal.
 #[tactic(auto, unfolding(crate::specs::Standing::mark_of))]
 fn push_mark<W: Sink>(out: &mut W, status: u8) -> Result<(), WriteFailed>
     ensures { Pushes W.taken W.failures out.old out.new result (mark_of status) }
 {
-    push_pieces(
-        out,
-        &[b"= ", Digits::of(u32::from(status)).as_bytes(), b" "],
-    )
+    push_pieces(out, &[Digits::of(u32::from(status)).as_bytes(), b" "])
 }
 
 // The status of a refusal, and then its line.
@@ -108,44 +116,61 @@ fn push_unnamed<W: Sink>(out: &mut W, refusal: NamesRefusal) -> Result<(), Write
     push_names_line(out, refusal)
 }
 
-// The line that ends an answer.
-fn push_ending<W: Sink>(out: &mut W, ending: &Ending) -> Result<(), WriteFailed>
-    ensures { Pushes W.taken W.failures out.old out.new result (end_told ending.now) }
+// What stands behind the begin of the line.
+fn push_behind<W: Sink>(out: &mut W, ending: &Ending) -> Result<(), WriteFailed>
+    ensures { Pushes W.taken W.failures out.old out.new result
+        (behind_begin (end_said ending.now)) }
 {
     match ending {
         Ending::Given(status) => {
-            push_pieces(
-                out,
-                &[b"= ", Digits::of(u32::from(*status)).as_bytes(), b"\n"],
-            )
+            push_pieces(out, &[Digits::of(u32::from(*status)).as_bytes(), b"\n"])
         }
         Ending::Refused(refusal) => push_refused(out, refusal),
         Ending::Unnamed(refusal) => push_unnamed(out, *refusal),
-        Ending::Faulted(fault) => push_pieces(out, &[b"= 2 ", fault.line().as_bytes()]),
+        Ending::Faulted(fault) => push_pieces(out, &[b"2 ", fault.line().as_bytes()]),
         Ending::Unasked => Ok(()),
-        Ending::Stopped => push_all(out, b"= 8 search: TooManyTries\n"),
+        Ending::Stopped => push_all(out, b"8 search: TooManyTries\n"),
     }
 }
 
-/// Ends an answer: its last line, and then the line that ends it. Gives the sink below back.
+// The line that ends an answer to a line with this tag.
+#[tactic(auto, using(ac_base::proofs::Leaving::behind))]
+fn push_ending<W: Sink>(
+    out: &mut W,
+    tag: Option<&[u8]>,
+    ending: &Ending,
+) -> Result<(), WriteFailed>
+    ensures { Pushes W.taken W.failures out.old out.new result
+        (end_told (tag_shown tag.entry) ending.now) }
+{
+    if let Ending::Unasked = ending {
+        return Ok(());
+    }
+    push_begin(out, tag)?;
+    push_behind(out, ending)
+}
+
+/// Ends an answer: its last line, and then the line that ends it, with the tag of what is answered. Gives the sink below back.
 pub(crate) fn end_answer<W: Sink>(
     frame: Escaping<W>,
+    tag: Option<&[u8]>,
     ending: &Ending,
 ) -> (Result<(), WriteFailed>, W)
     ensures ok { OnOk result.0 ((old : Option (List ℕ)) (text : List ℕ)
         → Appends (begun old) (⟦<Escaping<W> as Sink>⟧.taken frame) text
-        → Appends old (W.taken result.1) (lines_written text ++ end_told ending.now)) }
+        → Appends old (W.taken result.1)
+        (lines_written text ++ end_told (tag_shown tag.entry) ending.now)) }
     ensures part { (old : Option (List ℕ)) (text : List ℕ)
         → Appends (begun old) (⟦<Escaping<W> as Sink>⟧.taken frame) text
-        → IsFirstPart (append_known old (lines_written text ++ end_told ending.now))
-        (W.taken result.1) }
+        → IsFirstPart (append_known old
+        (lines_written text ++ end_told (tag_shown tag.entry) ending.now)) (W.taken result.1) }
     ensures rises { OnErr result.0 (Rises (⟦<Escaping<W> as Sink>⟧.failures frame)
         (W.failures result.1)) }
     ensures failures { ⟦<Escaping<W> as Sink>⟧.failures frame ≤ W.failures result.1 }
 {
     match frame.finish() {
         (Ok(()), mut out) => {
-            let ended = push_ending(&mut out, ending);
+            let ended = push_ending(&mut out, tag, ending);
             (ended, out)
         }
         (Err(fault), out) => (Err(fault), out),

@@ -9,10 +9,12 @@ ghost use Rattle.ac_session.specs.Lines.{behind_line, first_line, given_first, i
 ghost use Rattle.ac_session.specs.Rooms.{size_of, taken};
 
 mod room;
+mod tags;
 
 use ac_base::{Feed, MOST_AGAIN, NoMemory, Pull};
 use room::Room;
 use std::alloc::Global;
+pub(crate) use tags::{behind_tag, tag_in};
 
 /// The most bytes of a line, with its newline.
 const ROOM: usize = 131_073;

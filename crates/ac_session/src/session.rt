@@ -21,7 +21,7 @@ ghost use Rattle.ac_session.specs.Held.{held_of, unnamed};
 ghost use Rattle.ac_session.specs.Lines.{Given, most_passed};
 ghost use Rattle.ac_session.specs.Reading.{feed_in, given_by, left};
 ghost use Rattle.ac_session.specs.Sessions.{AreUnread, past_called, session_answer, session_answer_with};
-ghost use Rattle.ac_session.specs.Standing.{Answers, Stands, end_told, stop_line, stop_status};
+ghost use Rattle.ac_session.specs.Standing.{Answers, Stands, end_told, stop_line, stop_status, tag_shown};
 ghost use Rattle.ac_session.specs.Tries.{AreStops, WithStops};
 ghost use Rattle.ac_session.specs.Turns.{lines_in, session_text};
 ghost use Rattle.ac_session.specs.Turns.Named.{IsDirectory, Knows, table_in, terms_of, terms_with};
@@ -32,7 +32,7 @@ ghost use Rattle.ac_tables.specs.declared.fault.Table.{Table};
 
 use crate::endings::{AnswerFault, Ending, end_answer};
 use crate::escaping::Escaping;
-use crate::lines::{Lines, Next};
+use crate::lines::{Lines, Next, tag_in};
 use crate::turns::{Directory, Held, Terms, answer_next, look_up};
 use ac_base::{Feed, Gathering, NoMemory, Sink, push_all};
 use ac_query::Version;
@@ -67,21 +67,23 @@ enum Step {
 // Ends an answer, and hands on what of it is gathered.
 fn end_gathered<W: Sink + Drop>(
     frame: Escaping<Gathering<W>>,
+    tag: Option<&[u8]>,
     ending: &Ending,
 ) -> (Result<(), AnswerFault>, W)
     ensures ok { OnOk result.0 ((old : Option (List ℕ)) (text : List ℕ)
         → Appends (begun old) (⟦<Escaping<Gathering<W>> as Sink>⟧.taken frame) text
-        → Appends old (W.taken result.1) (lines_written text ++ end_told ending.now)) }
+        → Appends old (W.taken result.1)
+        (lines_written text ++ end_told (tag_shown tag.entry) ending.now)) }
     ensures part { (old : Option (List ℕ)) (text : List ℕ)
         → Appends (begun old) (⟦<Escaping<Gathering<W>> as Sink>⟧.taken frame) text
-        → IsFirstPart (append_known old (lines_written text ++ end_told ending.now))
-        (W.taken result.1) }
+        → IsFirstPart (append_known old
+        (lines_written text ++ end_told (tag_shown tag.entry) ending.now)) (W.taken result.1) }
     ensures failed { OnErr result.0
         (Rises (⟦<Escaping<Gathering<W>> as Sink>⟧.failures frame) (W.failures result.1)) }
     ensures failures { ⟦<Escaping<Gathering<W>> as Sink>⟧.failures frame
         ≤ W.failures result.1 }
 {
-    match end_answer(frame, ending) {
+    match end_answer(frame, tag, ending) {
         (Ok(()), gathering) => match gathering.finish() {
             (Ok(()), out) => (Ok(()), out),
             (Err(_), out) => (Err(AnswerFault::WriteFailed), out),
@@ -111,7 +113,7 @@ fn hand_on<W: Sink + Drop>(
     };
     let mut frame = Escaping::new(Gathering::new(out, room));
     match answer_next(alloc, held, terms, next, &mut frame) {
-        Ok(ending) => end_gathered(frame, &ending),
+        Ok(ending) => end_gathered(frame, tag_in(next), &ending),
         Err(fault) => (Err(fault), frame.into_inner().into_inner()),
     }
 }

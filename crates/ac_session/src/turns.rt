@@ -42,7 +42,7 @@ use crate::endings::{AnswerFault, Ending, broken_off, given, refused, unnamed, w
 use crate::help::push_help;
 use crate::left::write_left;
 use crate::line_faults::LineFault;
-use crate::lines::Next;
+use crate::lines::{Next, behind_tag};
 use crate::questions::{Question, Texts, read_question};
 use crate::turns::marks::Mark;
 use crate::turns::named::{
@@ -583,7 +583,7 @@ pub(crate) fn answer_next<W: Sink>(
 {
     match next {
         Next::Line(line) => {
-            let question = read_question(line, terms.version);
+            let question = read_question(behind_tag(line), terms.version);
             answer_question(alloc, held, terms, question, out)
         }
         Next::TooLong => Ok(Ending::Faulted(LineFault::TooLong)),

@@ -5,13 +5,14 @@ use Rattle.std.proofs.lemmas.Bool.{and_parts, cases_Bool}
 use Rattle.std.proofs.lemmas.Bool.Decides.{nat_tests}
 use Rattle.std.proofs.lemmas.List.Elements.{All-cons, All-nil}
 use Rattle.std.proofs.lemmas.List.Splits.{slice_split_at}
-use Rattle.std.specs.Prelude.{◌==◌, not, decimal, if◌then◌else◌}
-use Rattle.std.specs.List.{list_all, slice_split}
+use Rattle.std.specs.Prelude.{◌==◌, codes, not, decimal, if◌then◌else◌}
+use Rattle.std.specs.List.{before_first, list_all, slice_split}
 use Rattle.ac_rules.specs.Together.{is_empty}
 use Rattle.ac_run.specs.Answer.{Outcome}
-use Rattle.ac_session.specs.Frames.{begins_line, behind_status, end_line, escaped, is_marked, last_newline, lines_written}
+use Rattle.ac_session.specs.Frames.{begin_of, begins_line, behind_status, end_behind, escaped, is_marked, last_newline, lines_written}
 use Rattle.ac_session.specs.Laws.Apart.{AnswersApart, SessionsApart, StoppedApart, answers_of, answers_read, answers_with, ended, first_answer, is_end_line, up_to_end}
-use Rattle.ac_session.specs.Lines.{is_newline}
+use Rattle.ac_rules.proofs.EachSlot.FrontLemmas.{all_weaker}
+use Rattle.ac_session.specs.Lines.{Given, line, too_long, end, ends_tag, is_newline, is_tagged, tag_in, tag_of}
 use Rattle.ac_session.specs.Tries.{text_with, turn_at}
 use Rattle.ac_session.specs.Turns.{answer_text, session_text, text_of, turn_of}
 use Rattle.ac_session.proofs.AnswerFacts.Escaped.{marked_inner}
@@ -108,22 +109,63 @@ behind_plain : (line : List ℕ) → IsPlain (behind_status line)
 behind_plain [] = plain refl
 behind_plain (byte ∷ line) = plain_byte refl (plain (before_plain is_newline (byte ∷ line)))
 
-answer_read : (o : Outcome) (rest : List ℕ) → first_answer (answer_text (Some o) ++ rest) ≡ answer_text (Some o)
-answer_read o rest =
-    let told = 32 ∷ (decimal o.status ++ behind_status o.line) in
-    let clean : IsPlain told = plain_byte refl (plain_joined (plain_number o.status) (behind_plain o.line)) in
-    let last = end_line o.status o.line in
-    let whole : last ≡ 61 ∷ (told ++ 10 ∷ []) = ap (λ (l : List ℕ). 61 ∷ 32 ∷ l) (sym (append_assoc (decimal o.status) (behind_status o.line) (10 ∷ []))) in
+-- a tag has no newline
+inner : (byte : ℕ) → not (ends_tag byte) ≡ true → is_inner byte ≡ true
+inner byte h = grind (arith, nat_tests)
+
+word_plain : (text : List ℕ) → IsPlain (before_first ends_tag text)
+word_plain text = plain (all_weaker (λ byte. not (ends_tag byte)) is_inner inner (before_first ends_tag text) (before_plain ends_tag text))
+
+tag_plain : (text tag : List ℕ) → tag_of text ≡ Some tag → IsPlain tag
+tag_plain text tag h = elim (cases_Bool (is_tagged text)) [
+  | inl on ↦ subst IsPlain (some_same (rw on at h)) (word_plain text)
+  | inr off ↦ absurd (no_tag tag (rw off at h))
+]
+  where
+    some_same : {x y : List ℕ} → Some x ≡ Some y → x ≡ y
+    some_same e = cc
+
+    no_tag : (tag : List ℕ) → None ≡ Some tag → ⊥
+    no_tag tag e = cc
+
+given_plain : (given : Given) (tag : List ℕ) → tag_in given ≡ Some tag → IsPlain tag
+given_plain (line text) tag h = tag_plain text tag h
+given_plain too_long tag h = let none : None ≡ Some tag = h in absurd cc
+given_plain end tag h = let none : None ≡ Some tag = h in absurd cc
+
+-- the line that ends an answer, with the tag or without
+end_read : (tag : Option (List ℕ)) → ((text : List ℕ) → tag ≡ Some text → IsPlain text) → (status : ℕ) (line rest : List ℕ)
+    → first_answer ((begin_of tag ++ end_behind status line) ++ rest) ≡ begin_of tag ++ end_behind status line
+end_read None clean status line rest =
+    let told = 32 ∷ (decimal status ++ behind_status line) in
+    let plain_told : IsPlain told = plain_byte refl (plain_joined (plain_number status) (behind_plain line)) in
+    let whole : codes "= " ++ end_behind status line ≡ 61 ∷ (told ++ 10 ∷ []) = ap (λ (l : List ℕ). 61 ∷ 32 ∷ l) (sym (append_assoc (decimal status) (behind_status line) (10 ∷ []))) in
+    ap (λ (l : List ℕ). first_answer (l ++ rest)) whole ∙ reads_end told rest plain_told ∙ sym whole
+end_read (Some tag) clean status line rest =
+    let front = 32 ∷ (tag ++ 32 ∷ []) in
+    let told = front ++ (decimal status ++ behind_status line) in
+    let plain_told : IsPlain told =
+    plain_joined (plain_byte refl (plain_joined (clean tag refl) (plain_byte refl (plain refl)))) (plain_joined (plain_number status) (behind_plain line)) in
+    let whole : (codes "= " ++ (tag ++ 32 ∷ [])) ++ end_behind status line ≡ 61 ∷ (told ++ 10 ∷ []) =
+    ap (λ (l : List ℕ). 61 ∷ (front ++ l)) (sym (append_assoc (decimal status) (behind_status line) (10 ∷ [])))
+    ∙ ap (λ (l : List ℕ). 61 ∷ l) (sym (append_assoc front (decimal status ++ behind_status line) (10 ∷ []))) in
+    ap (λ (l : List ℕ). first_answer (l ++ rest)) whole ∙ reads_end told rest plain_told ∙ sym whole
+
+answer_read : (tag : Option (List ℕ)) → ((text : List ℕ) → tag ≡ Some text → IsPlain text) → (o : Outcome) (rest : List ℕ)
+    → first_answer (answer_text tag (Some o) ++ rest) ≡ answer_text tag (Some o)
+answer_read tag clean o rest =
+    let last = begin_of tag ++ end_behind o.status o.line in
     ap first_answer (append_assoc (lines_written o.output) last rest)
     ∙ passed (last ++ rest) o.output [] (plain refl) refl
-    ∙ ap (λ (l : List ℕ). lines_written o.output ++ l) (ap (λ (l : List ℕ). first_answer (l ++ rest)) whole ∙ reads_end told rest clean ∙ sym whole)
+    ∙ ap (λ (l : List ℕ). lines_written o.output ++ l) (end_read tag clean o.status o.line rest)
 
-any_read : (answer : Option Outcome) → answer_text answer ≢ [] → (rest : List ℕ) → first_answer (answer_text answer ++ rest) ≡ answer_text answer
-any_read None some rest = absurd (some refl)
-any_read (Some o) some rest = answer_read o rest
+any_read : (given : Given) (answer : Option Outcome) → answer_text (tag_in given) answer ≢ [] → (rest : List ℕ)
+    → first_answer (answer_text (tag_in given) answer ++ rest) ≡ answer_text (tag_in given) answer
+any_read given None some rest = absurd (some refl)
+any_read given (Some o) some rest = answer_read (tag_in given) (given_plain given) o rest
 
 pub answers_apart : AnswersApart
-answers_apart terms held given = any_read (turn_of terms held given).answer
+answers_apart terms held given = any_read given (turn_of terms held given).answer
 
 -- ---- one after another
 
@@ -140,7 +182,7 @@ pub sessions_apart : SessionsApart
 sessions_apart terms held [] = refl
 sessions_apart terms held (given ∷ others) =
     let turn = turn_of terms held given in
-    turn_read (text_of turn) (session_text terms turn.state others) (answers_of terms turn.state others) (answers_apart terms held given)
+    turn_read (text_of (tag_in given) turn) (session_text terms turn.state others) (answers_of terms turn.state others) (answers_apart terms held given)
     (sessions_apart terms turn.state others)
 
 -- where searches stopped as well
@@ -149,5 +191,5 @@ stopped_apart terms held [] lines = sessions_apart terms held lines
 stopped_apart terms held (stop ∷ stops) [] = refl
 stopped_apart terms held (stop ∷ stops) (given ∷ others) =
     let turn = turn_at terms held stop given in
-    turn_read (text_of turn) (text_with terms turn.state stops others) (answers_with terms turn.state stops others) (any_read turn.answer)
+    turn_read (text_of (tag_in given) turn) (text_with terms turn.state stops others) (answers_with terms turn.state stops others) (any_read given turn.answer)
     (stopped_apart terms turn.state stops others)

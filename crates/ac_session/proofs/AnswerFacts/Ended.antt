@@ -29,7 +29,7 @@ use Rattle.ac_run.specs.Tasks.{Command, Paths}
 use Rattle.ac_run.specs.Tasks as command
 use Rattle.ac_session.proofs.AnswerFacts.Stood.{first_none, none_added}
 use Rattle.ac_session.specs.Held.{Held, unnamed}
-use Rattle.ac_session.specs.Lines.{Given, line, too_long, end}
+use Rattle.ac_session.specs.Lines.{Given, line, too_long, end, tag_in}
 use Rattle.ac_session.specs.Questions.{Asked, job, fill, place, claim, release, release_name, move, mark, back, usages, left_at, help, nothing, unknown, wrong_number, asked_of}
 use Rattle.ac_session.specs.Sessions.{AreUnread, held, held_with, past_called, session_answer, session_answer_with}
 use Rattle.ac_session.specs.Standing.{stop_line, stop_status}
@@ -150,7 +150,7 @@ whole_text : (terms : Terms) (state : Held) (stops : List (Option (List ℕ))) (
 whole_text terms state [] lines are = refl
 whole_text terms state (stop ∷ stops) [] are = refl
 whole_text terms state (None ∷ stops) (given ∷ others) are =
-    ap (λ l. text_of (turn_of terms state given) ++ l) (whole_text terms (turn_of terms state given).state stops others are.1)
+    ap (λ l. text_of (tag_in given) (turn_of terms state given) ++ l) (whole_text terms (turn_of terms state given).state stops others are.1)
 whole_text terms state (Some written ∷ stops) (given ∷ others) are = absurd (given_none terms state given are.0.0)
 
 never_stops : (tries : Option ℕ) (terms : Terms) (state : Held) (q : List ℕ) → tries ≡ None → (P : List ℕ → Type 0)

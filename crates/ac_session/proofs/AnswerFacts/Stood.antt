@@ -11,7 +11,7 @@ use Rattle.ac_base.proofs.Leaving.{appends_both}
 use Rattle.ac_base.specs.Gathered.{IsFirstPart}
 use Rattle.ac_session.proofs.ReadingFacts.Leading.Firsts.{after_missed, before_missed, before_size, place_inside}
 use Rattle.ac_session.specs.Held.{Held}
-use Rattle.ac_session.specs.Lines.{Given, line, too_long, end, behind_line, first_line, given_first, is_newline, most_bytes, most_passed, without_return}
+use Rattle.ac_session.specs.Lines.{Given, line, too_long, end, behind_line, first_line, given_first, is_newline, most_bytes, most_passed, tag_in, without_return}
 use Rattle.ac_session.specs.Reading.{given_by}
 use Rattle.ac_session.specs.Standing.{Answers, Stands}
 use Rattle.ac_session.specs.declared.lines.Next.{Next}
@@ -37,7 +37,7 @@ empty_turn terms held = ap (turn_told terms held) (nothing_told terms held.world
 
 empty_text : (terms : Terms) (held : Held) → session_text terms held (lines_in []) ≡ []
 unfolding lines_in
-empty_text terms held = ap (λ turn. text_of turn ++ []) (empty_turn terms held)
+empty_text terms held = ap (λ turn. text_of None turn ++ []) (empty_turn terms held)
 
 -- the lines of a text are its first line, and those behind it
 lines_found : (bytes : List ℕ) → position_or_len is_newline bytes < length bytes → lines_in bytes ≡ given_line (first_line bytes) ∷ lines_in (behind_line bytes)
@@ -70,7 +70,7 @@ module _ (tries : Option ℕ) (terms : Terms) (held : Held) where
   empty_with : (stops : List (Option (List ℕ))) → AreStops tries terms held stops (lines_in []) → text_with terms held stops (lines_in []) ≡ []
   unfolding lines_in
   empty_with [] are = empty_text terms held
-  empty_with (None ∷ stops) are = ap (λ turn. text_of turn ++ text_with terms turn.state stops []) (empty_turn terms held) ∙ none_written terms held stops
+  empty_with (None ∷ stops) are = ap (λ turn. text_of None turn ++ text_with terms turn.state stops []) (empty_turn terms held) ∙ none_written terms held stops
   empty_with (Some written ∷ stops) are = absurd (never_stops are.0.0)
 
 -- what is written for a text is the turn of its first line, and what is written for the lines behind it
@@ -81,7 +81,7 @@ module _ (tries : Option ℕ) (terms : Terms) (held after : Held) (bytes : List 
   -- it may have stopped, and so may those behind it
   pub record IsTurn (later : List (Option (List ℕ))) (lines : List Given) : Type 0 where
     pub stops : AreStops tries terms held (stop ∷ later) lines
-    pub text : text_with terms held (stop ∷ later) lines ≡ text_of (turn_at terms held stop given) ++ text_with terms after later behind
+    pub text : text_with terms held (stop ∷ later) lines ≡ text_of (tag_in given) (turn_at terms held stop given) ++ text_with terms after later behind
 
   whole_turn : given_line (first_line bytes) ≡ given → after ≡ (turn_at terms held stop given).state
       → (later : List (Option (List ℕ))) → AreStops tries terms after later behind → IsTurn later (lines_in bytes)
@@ -93,7 +93,7 @@ module _ (tries : Option ℕ) (terms : Terms) (held after : Held) (bytes : List 
       by : (b : Bool) → ltb (position_or_len is_newline bytes) (length bytes) ≡ b → IsTurn later (lines_in bytes)
       by true e =
           subst (IsTurn later) (sym (lines_found bytes (grind (arith, nat_tests)) ∙ ap (λ g. g ∷ behind) same))
-          (record { stops = (may, there); text = ap (λ w. text_of (turn_at terms held stop given) ++ text_with terms w later behind) (sym on) })
+          (record { stops = (may, there); text = ap (λ w. text_of (tag_in given) (turn_at terms held stop given) ++ text_with terms w later behind) (sym on) })
       by false e =
           let inside = place_inside is_newline bytes in
           let missed : position_or_len is_newline bytes ≡ length bytes = grind (arith, nat_tests) in
@@ -103,7 +103,7 @@ module _ (tries : Option ℕ) (terms : Terms) (held after : Held) (bytes : List 
           (record {
             stops = (may, subst (λ w. AreStops tries terms w later []) on (empty_stops tries terms after later last));
             text =
-                ap (λ l. text_of (turn_at terms held stop given) ++ l)
+                ap (λ l. text_of (tag_in given) (turn_at terms held stop given) ++ l)
                 (none_written terms (turn_at terms held stop given).state later
                 ∙ sym (ap (λ b. text_with terms after later (lines_in b)) none ∙ empty_with tries terms after later last));
           })
@@ -259,7 +259,7 @@ module _ (tries : Option ℕ) (terms : Terms) (held : Held) (q : List ℕ) (a c 
         answers.stop ∷ [],
         whole.stops,
         subst (λ (text : List ℕ). IsFirstPart (append_known a text) c) (sym whole.text)
-            (first_of_first a c (text_of turn) (session_text terms turn.state (lines_in (behind_line q))) answers.part),
+            (first_of_first a c (text_of (tag_in given) turn) (session_text terms turn.state (lines_in (behind_line q))) answers.part),
       )
 
   -- and then what is behind it is left
@@ -274,7 +274,7 @@ module _ (tries : Option ℕ) (terms : Terms) (held : Held) (q : List ℕ) (a c 
         rest = behind_line q;
         left = left short;
         stops = answers.stop ∷ [];
-        written = text_of turn;
+        written = text_of (tag_in given) turn;
         taken = IfOk-at_ok _ fine answers.ok;
         may = λ later are. (whole later are).stops;
         text = λ later are. (whole later are).text;

@@ -14,11 +14,11 @@ use Rattle.ac_run.specs.declared.refusal.NamesRefusal.{NamesRefusal}
 use Rattle.ac_session.proofs.Plain.{IsLine, line_told, names_one, refusal_one}
 use Rattle.ac_session.proofs.AnswerFacts.Stood.{first_none, first_of_first, none_added}
 use Rattle.ac_session.specs.Escapes.{begun, marked_off}
-use Rattle.ac_session.specs.Frames.{end_line, lines_written}
+use Rattle.ac_session.specs.Frames.{behind_begin, end_behind, end_text, lines_written}
 use Rattle.ac_session.specs.Held.{Held}
-use Rattle.ac_session.specs.Lines.{Given}
+use Rattle.ac_session.specs.Lines.{Given, tag_in}
 use Rattle.ac_session.specs.Questions.LineFaults.{fault_line}
-use Rattle.ac_session.specs.Standing.{Answers, Closes, Gives, IsGiven, TakesTurn, end_told, mark_of, state_behind, status_told}
+use Rattle.ac_session.specs.Standing.{Answers, Closes, Gives, IsGiven, TakesTurn, end_said, end_told, mark_of, state_behind, status_told}
 use Rattle.ac_session.specs.Tries.{GivenMayStop, MayStopAt, turn_at}
 use Rattle.ac_session.specs.Turns.{Turn, answer_text, end_of, output_of, status_of, text_of, turn_of}
 use Rattle.ac_session.specs.Turns.Named.{Terms}
@@ -100,7 +100,7 @@ stopped_behind first turn (Ok end) is = subst (λ end. first ≡ state_behind fi
 stopped_behind first turn (Err e) is = tt
 
 -- an answer without output ends at once
-pub ends_so : {S : Type 0} (answer : Option Outcome) (state : S) (end : Ending) (a : Option (List ℕ)) (n : ℕ) → (end ≡ ending.Stopped → ⊥) → output_of answer ≡ [] → end_told end ≡ end_of answer
+pub ends_so : {S : Type 0} (answer : Option Outcome) (state : S) (end : Ending) (a : Option (List ℕ)) (n : ℕ) → (end ≡ ending.Stopped → ⊥) → output_of answer ≡ [] → end_said end ≡ end_of answer
     → status_told end ≡ status_of answer → TakesTurn ⊥ state (record { answer = answer; state = state }) (Ok end) state a a n n
 ends_so answer state end a n isnt none told status = record {
   answer = record {
@@ -112,26 +112,23 @@ ends_so answer state end a n isnt none told status = record {
   state = same_behind state answer end;
 }
 
--- the line of a search that stopped
-pub stopped_told : (ends : Ending) → ends ≡ ending.Stopped → codes "= 8 search: TooManyTries\n" ≡ end_told ends
+-- the line of a search that stopped, behind its begin
+pub stopped_told : (ends : Ending) → ends ≡ ending.Stopped → codes "8 search: TooManyTries\n" ≡ behind_begin (end_said ends)
 unfolding digits tries_line
 stopped_told ends is = rw is refl
 
 -- the line of a refusal, of names that stand for nothing, of a line that asks nothing
-behind_mark : (status : ℕ) (line : List ℕ) → IsLine line → mark_of status ++ line ≡ end_line status line
+behind_mark : (status : ℕ) (line : List ℕ) → IsLine line → mark_of status ++ line ≡ end_behind status line
 unfolding mark_of
-behind_mark status line one =
-    append_assoc (codes "= ") (decimal status ++ 32 ∷ []) line
-    ∙ ap (λ l. codes "= " ++ l) (append_assoc (decimal status) (32 ∷ []) line)
-    ∙ ap (λ l. codes "= " ++ (decimal status ++ l)) (sym (line_told line one))
+behind_mark status line one = append_assoc (decimal status) (32 ∷ []) line ∙ ap (λ l. decimal status ++ l) (sym (line_told line one))
 
-pub refused_told : (ends : Ending) (refusal : AskRefusal) → ends ≡ ending.Refused refusal → mark_of (status_of_asked refusal) ++ line_of_asked refusal ≡ end_told ends
+pub refused_told : (ends : Ending) (refusal : AskRefusal) → ends ≡ ending.Refused refusal → mark_of (status_of_asked refusal) ++ line_of_asked refusal ≡ behind_begin (end_said ends)
 refused_told ends refusal is = rw is (behind_mark (status_of_asked refusal) (line_of_asked refusal) (refusal_one refusal))
 
-pub unnamed_told : (ends : Ending) (why : NamesRefusal) → ends ≡ ending.Unnamed why → mark_of (status_of_names why) ++ names_line why ≡ end_told ends
+pub unnamed_told : (ends : Ending) (why : NamesRefusal) → ends ≡ ending.Unnamed why → mark_of (status_of_names why) ++ names_line why ≡ behind_begin (end_said ends)
 unnamed_told ends why is = rw is (behind_mark (status_of_names why) (names_line why) (names_one why))
 
-pub faulted_told : (ends : Ending) (f : LineFault) → ends ≡ ending.Faulted f → codes "= 2 " ++ (fault_line f ++ []) ≡ end_told ends
+pub faulted_told : (ends : Ending) (f : LineFault) → ends ≡ ending.Faulted f → codes "2 " ++ (fault_line f ++ []) ≡ behind_begin (end_said ends)
 unfolding digits
 faulted_told ends fault.UnknownCommand is = rw is refl
 faulted_told ends fault.WrongNumber is = rw is refl
@@ -169,25 +166,25 @@ first_taken None b text h = tt
 first_taken (Some u) None text h = absurd h
 first_taken (Some u) (Some v) text h = (h.1, ap (λ l. u ++ l) h.2 ∙ sym (append_assoc u h.0 h.1) ∙ ap (λ l. l ++ h.1) (sym h.3))
 
-module _ (answer : Option Outcome) (a g e f w : Option (List ℕ)) (kept : Keeps a g) (is : e ≡ begun g) where
-  pub handed_whole : (end : Ending) → IsGiven answer e f end → ((old : Option (List ℕ)) (text : List ℕ) → Appends (begun old) f text → Appends old w (lines_written text ++ end_told end))
-      → Appends a w (answer_text answer)
+module _ (tag : Option (List ℕ)) (answer : Option Outcome) (a g e f w : Option (List ℕ)) (kept : Keeps a g) (is : e ≡ begun g) where
+  pub handed_whole : (end : Ending) → IsGiven answer e f end → ((old : Option (List ℕ)) (text : List ℕ) → Appends (begun old) f text → Appends old w (lines_written text ++ end_told tag end))
+      → Appends a w (answer_text tag answer)
   handed_whole end given hands =
-      subst (λ (l : List ℕ). Appends a w (lines_written (output_of answer) ++ l)) given.ends
+      subst (λ (l : Option (ℕ × List ℕ)). Appends a w (lines_written (output_of answer) ++ end_text tag l)) given.ends
       (hands a (output_of answer) (kept_appends (begun a) e f (output_of answer) (begun_keeps a g e kept is) given.output))
 
   pub handed_part : (end : Ending) → IsGiven answer e f end
-      → ((old : Option (List ℕ)) (text : List ℕ) → Appends (begun old) f text → IsFirstPart (append_known old (lines_written text ++ end_told end)) w)
-      → IsFirstPart (append_known a (answer_text answer)) w
+      → ((old : Option (List ℕ)) (text : List ℕ) → Appends (begun old) f text → IsFirstPart (append_known old (lines_written text ++ end_told tag end)) w)
+      → IsFirstPart (append_known a (answer_text tag answer)) w
   handed_part end given hands =
-      subst (λ (l : List ℕ). IsFirstPart (append_known a (lines_written (output_of answer) ++ l)) w) given.ends
+      subst (λ (l : Option (ℕ × List ℕ)). IsFirstPart (append_known a (lines_written (output_of answer) ++ end_text tag l)) w) given.ends
       (hands a (output_of answer) (kept_appends (begun a) e f (output_of answer) (begun_keeps a g e kept is) given.output))
 
   -- the output wasn't written whole
   pub handed_begun : (h : Option (List ℕ)) → TakesPart e f (output_of answer) → ((old : Option (List ℕ)) (text : List ℕ) → TakesPart (begun old) f text → IsFirstPart (append_known old (lines_written text)) h)
-      → IsFirstPart h w → IsFirstPart (append_known a (answer_text answer)) w
+      → IsFirstPart h w → IsFirstPart (append_known a (answer_text tag answer)) w
   handed_begun h part hands more =
-      first_of_first a w (lines_written (output_of answer)) (end_of answer)
+      first_of_first a w (lines_written (output_of answer)) (end_text tag (end_of answer))
       (part_within (append_known a (lines_written (output_of answer))) h w
       (hands a (output_of answer) (kept_part (begun a) e f (output_of answer) (begun_keeps a g e kept is) part)) more)
 
@@ -227,8 +224,8 @@ module _ (tries : Option ℕ) (terms : Terms) (first : Held) (given : Given) (no
 
   pub answers_given : {T : Type 0} (result : Result T AnswerFault) (end : Ending) (before after : ℕ)
       → TakesTurn (GivenMayStop tries terms first given) first turn (Ok end) now e f before after
-      → OnOk result ((old : Option (List ℕ)) (text : List ℕ) → Appends (begun old) f text → Appends old w (lines_written text ++ end_told end))
-      → ((old : Option (List ℕ)) (text : List ℕ) → Appends (begun old) f text → IsFirstPart (append_known old (lines_written text ++ end_told end)) w)
+      → OnOk result ((old : Option (List ℕ)) (text : List ℕ) → Appends (begun old) f text → Appends old w (lines_written text ++ end_told (tag_in given) end))
+      → ((old : Option (List ℕ)) (text : List ℕ) → Appends (begun old) f text → IsFirstPart (append_known old (lines_written text ++ end_told (tag_in given) end)) w)
       → Answers tries terms first given result now a w
   answers_given result end before after takes whole part =
       let at = is_at end takes.answer.ok takes.state in
@@ -236,9 +233,9 @@ module _ (tries : Option ℕ) (terms : Terms) (first : Held) (given : Given) (no
       record {
         stop = at.stop;
         may = at.may;
-        ok = on_ok_weaker result (handed_whole answer a g e f w kept is end at.output) whole;
+        ok = on_ok_weaker result (handed_whole (tag_in given) answer a g e f w kept is end at.output) whole;
         state = ok_any result _ at.state;
-        part = handed_part answer a g e f w kept is end at.output part;
+        part = handed_part (tag_in given) answer a g e f w kept is end at.output part;
       }
 
   -- the output wasn't written whole
@@ -246,10 +243,10 @@ module _ (tries : Option ℕ) (terms : Terms) (first : Held) (given : Given) (no
       → ((old : Option (List ℕ)) (text : List ℕ) → TakesPart (begun old) f text → IsFirstPart (append_known old (lines_written text)) h) → IsFirstPart h w
       → Answers {T = T} tries terms first given (Err fault) now a w
   answers_begun fault h part hands more =
-      record { stop = None; may = tt; ok = tt; state = tt; part = handed_begun turn.answer a g e f w kept is h part hands more }
+      record { stop = None; may = tt; ok = tt; state = tt; part = handed_begun (tag_in given) turn.answer a g e f w kept is h part hands more }
 
 -- nothing was written
 pub answers_none : {T : Type 0} (tries : Option ℕ) (terms : Terms) (first : Held) (given : Given) (fault : AnswerFault) (now : Held) (a : Option (List ℕ))
     → Answers {T = T} tries terms first given (Err fault) now a a
 answers_none tries terms first given fault now a =
-    record { stop = None; may = tt; ok = tt; state = tt; part = first_none a (text_of (turn_of terms first given)) }
+    record { stop = None; may = tt; ok = tt; state = tt; part = first_none a (text_of (tag_in given) (turn_of terms first given)) }

@@ -5,7 +5,7 @@ use Rattle.ac_rules.specs.Together.{is_empty}
 use Rattle.ac_session.specs.Escapes.{plain}
 use Rattle.ac_session.specs.Frames.{begins_line, last_newline, lines_written}
 use Rattle.ac_session.specs.Held.{Held}
-use Rattle.ac_session.specs.Lines.{Given, is_newline, newline}
+use Rattle.ac_session.specs.Lines.{Given, is_newline, newline, tag_in}
 use Rattle.ac_session.specs.Questions.{Text}
 use Rattle.ac_session.specs.Tries.{text_with, turn_at}
 use Rattle.ac_session.specs.Turns.{session_text, text_of, turn_of}
@@ -41,8 +41,8 @@ answers_read (suc n) text = first_answer text ∷ answers_read n (drop (length (
 -- Who reads up to the first line that begins with `=` has read what is written for a line of a session, whatever it says and whatever stands behind it.
 abbrev pub AnswersApart : Type 0
 AnswersApart =
-    (terms : Terms) (held : Held) (given : Given) → text_of (turn_of terms held given) ≢ []
-    → (rest : Text) → first_answer (text_of (turn_of terms held given) ++ rest) ≡ text_of (turn_of terms held given)
+    (terms : Terms) (held : Held) (given : Given) → text_of (tag_in given) (turn_of terms held given) ≢ []
+    → (rest : Text) → first_answer (text_of (tag_in given) (turn_of terms held given) ++ rest) ≡ text_of (tag_in given) (turn_of terms held given)
 
 -- Who takes the blank off each line that begins with one has the lines of the answer again.
 abbrev pub BlanksComeOff : Type 0
@@ -53,7 +53,8 @@ abbrev pub answers_of : Terms → Held → List Given → List Text
 answers_of terms held [] = []
 answers_of terms held (given ∷ others) =
     let turn = turn_of terms held given in
-    if is_empty (text_of turn) then answers_of terms turn.state others else text_of turn ∷ answers_of terms turn.state others
+    let text = text_of (tag_in given) turn in
+    if is_empty text then answers_of terms turn.state others else text ∷ answers_of terms turn.state others
 
 -- Who reads a session answer by answer reads what is written for one line after another.
 abbrev pub SessionsApart : Type 0
@@ -66,8 +67,9 @@ answers_with terms held [] lines = answers_of terms held lines
 answers_with terms held (stop ∷ stops) [] = []
 answers_with terms held (stop ∷ stops) (given ∷ others) =
     let turn = turn_at terms held stop given in
+    let text = text_of (tag_in given) turn in
     let later = answers_with terms turn.state stops others in
-    if is_empty (text_of turn) then later else text_of turn ∷ later
+    if is_empty text then later else text ∷ later
 
 -- So does who reads one in which searches stopped.
 abbrev pub StoppedApart : Type 0

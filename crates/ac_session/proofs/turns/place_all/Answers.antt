@@ -6,7 +6,6 @@ use Rattle.ac_session.proofs.TurnFacts.Turned.{filled_world}
 use Rattle.ac_session.proofs.AnswerFacts.Written.{gives_weaker, stopped_behind}
 use Rattle.ac_run.specs.Answer.{fills_by}
 use Rattle.ac_run.specs.Outputs.{fill_status}
-use Rattle.ac_session.specs.Frames.{end_line}
 use Rattle.ac_session.specs.Turns.{after_fill, settles}
 use Rattle.ac_session.specs.Turns.Named.{are_named, terms_of}
 use Rattle.ac_session.proofs.turns.place_all.Goals as goal
@@ -19,7 +18,7 @@ returns-in-Ok g c =
     let status = c.fill_status.ensures.said ts c.in-Ok.ensures.count ∙ ap (λ (limit : Option ℕ). fill_status limit ts) c.limit.ensures in
     record {
       answer = record {
-        ok = record { output = c.in-Ok.ensures.text; ends = ap (λ n. end_line n []) status; status = ap Some status };
+        ok = record { output = c.in-Ok.ensures.text; ends = ap (λ n. Some (n, [])) status; status = ap Some status };
         part = tt;
         failed = λ e. absurd cc;
         failures = c.write_placements.ensures.failures;

@@ -2,7 +2,7 @@ use Rattle.std.proofs.Common.{◌∙◌, List, [], ℕ, ◌++◌, ap, subst}
 use Rattle.std.specs.Prelude.{codes}
 use Rattle.ac_base.specs.Writing.{Pushes}
 use Rattle.ac_session.proofs.AnswerFacts.Written.{faulted_told, refused_told, stopped_told, unnamed_told}
-use Rattle.ac_session.proofs.endings.push_ending.Goals as goal
+use Rattle.ac_session.proofs.endings.push_behind.Goals as goal
 
 pub returns-in-Refused : goal.returns-in-Refused
 returns-in-Refused g c =
@@ -14,7 +14,7 @@ returns-in-Unnamed g c =
 
 pub returns-in-Faulted : goal.returns-in-Faulted
 returns-in-Faulted g c =
-    let said = ap (λ (l : List ℕ). codes "= 2 " ++ (l ++ [])) (c.as_bytes-in-Faulted.ensures.value ∙ c.line.ensures) ∙ faulted_told c.args.ending.now c.in-Faulted.fault c.in-Faulted.is in
+    let said = ap (λ (l : List ℕ). codes "2 " ++ (l ++ [])) (c.as_bytes-in-Faulted.ensures.value ∙ c.line.ensures) ∙ faulted_told c.args.ending.now c.in-Faulted.fault c.in-Faulted.is in
     subst (Pushes g.W.Sink.taken g.W.Sink.failures _ _ c.push_pieces-in-Faulted.result) said c.push_pieces-in-Faulted.ensures
 
 pub returns-in-Stopped : goal.returns-in-Stopped
