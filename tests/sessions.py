@@ -241,6 +241,7 @@ left [HOST]                         what is left of each inventory, or of those 
 usages                              what is used, as a table
 audit                               what is amiss in the cloud
 help                                these lines
+@TAG QUESTION                       any of these: the tag stands again behind the = of its answer
 """[1:]
 
 # What is left: of a host's tree alone, where a host is named, by any provider of it or its UUID; of what is used beyond the capacity nothing.
@@ -731,6 +732,26 @@ def stepped(steps):
         yield 'usages', ended(HEADERS['usages'] + ''.join(f'{name},VCPU,{amount}\n' for name, amount in used.items()), 0)
 
 
+def tagged(tag, line, answer):
+    """A line with a tag, which stands again behind the `=` of its answer."""
+    before, mark, status = answer.rpartition('= ')
+    return f'@{tag} {line}', before + mark + (status and f'@{tag} {status}')
+
+
+# Any word that begins with `@` is a tag; without a question it has no answer.
+TAGS = [
+    *(tagged(tag, 'check', ended(COUNTS, 0)) for tag in ('', '@', '=', '1', 'é', 'check', 'a=b', 'x' * 100000)),
+    ('@a', ''),
+    ('@a ', ''),
+    ('@a # check', ''),
+    ('@a @b check', ended('', '@a 2', UNKNOWN)),
+    ('@a  check', ended('', '@a 2', UNKNOWN)),
+    ('@acheck', ''),
+    (' @a check', ended('', 2, UNKNOWN)),
+    ('check @a', ended('', 2, NUMBER)),
+]
+
+
 def behind(name, asked, end='\n', **more):
     """A session that is given these lines, each with this at its end."""
     return session(name, ''.join(line + end for line, _ in asked), ''.join(answer for _, answer in asked), **more)
@@ -746,6 +767,10 @@ def long_line(size, end='\n'):
 ENDS = [
     behind('what lines answer', FAULTS),
     behind('the same, with carriage returns', FAULTS[:6] + FAULTS[7:], '\r\n'),
+    behind('the same, with tags', [tagged(n, *each) for n, each in enumerate(FAULTS)]),
+    behind('tags', TAGS),
+    session('a tag that is no text', b'@\xff\x00 check\n@\xff nonsense\n', ended(COUNTS, '@\ufffd\x00 0') + ended('', '@\ufffd 2', UNKNOWN)),
+    session('a line with a tag that is too long', f'@a {"x" * MOST}\n@b check\n', ended('', 2, LONG) + ended(COUNTS, '@b 0')),
     behind('a name that looks like the end of an answer', LIKE_ENDS, made=NAMED),
     behind('a query as it is pasted', PASTED, made=SIXTEEN),
     behind('what is left', LEFT, made=TREES),
@@ -982,6 +1007,8 @@ def drawn_lines(number, turns=26, seed=5):
 def drawn_sessions(number):
     """The same as cases."""
     for n, (made, words, drawn) in enumerate(drawn_lines(number)):
+        # every third line has a tag
+        drawn = [tagged(place, *each) if place % 3 == 0 else each for place, each in enumerate(drawn)]
         yield session(f'drawn {n}', ''.join(line + '\n' for line, _ in drawn), ''.join(said for _, said in drawn), *words, made=made)
 
 

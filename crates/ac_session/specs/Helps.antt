@@ -25,6 +25,7 @@ help_lines =
     ∷ codes "usages                              what is used, as a table\n"
     ∷ codes "audit                               what is amiss in the cloud\n"
     ∷ codes "help                                these lines\n"
+    ∷ codes "@TAG QUESTION                       any of these: the tag stands again behind the = of its answer\n"
     ∷ []
 
 unfoldable pub help_text : List ℕ

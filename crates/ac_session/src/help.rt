@@ -33,6 +33,7 @@ pub(crate) fn push_help<W: Sink>(out: &mut W) -> Result<(), WriteFailed>
             b"usages                              what is used, as a table\n",
             b"audit                               what is amiss in the cloud\n",
             b"help                                these lines\n",
+            b"@TAG QUESTION                       any of these: the tag stands again behind the = of its answer\n",
         ],
     )
 }
