@@ -337,8 +337,9 @@ class Session:
         for text in self._process.stdout:
             line = text.decode().rstrip('\n')
             if line.startswith('='):
-                _, status, *error = line.split(' ', 2)
-                return Answer(lines, int(status), ''.join(error))
+                # before the status stands the tag of the question, where it has one
+                status, _, error = re.sub('^= (@[^ ]* )?', '', line).partition(' ')
+                return Answer(lines, int(status), error)
             # a line that would begin with `=` or a blank has a blank before it
             lines.append(line[1:] if line.startswith(' ') else line)
         raise self._ended()
