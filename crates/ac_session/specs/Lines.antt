@@ -53,10 +53,10 @@ ends_tag byte = byte == 32 || is_newline byte
 
 -- the tag of a line, where it has one, and what stands behind it
 abbrev pub tag_of : List ℕ → Option (List ℕ)
-tag_of line = if is_tagged line then Some (before_first ends_tag line) else None
+tag_of text = if is_tagged text then Some (before_first ends_tag text) else None
 
 abbrev pub behind_tag : List ℕ → List ℕ
-behind_tag line = if is_tagged line then after_first ends_tag line else line
+behind_tag text = if is_tagged text then after_first ends_tag text else text
 
 -- the tag of what bytes give; that of a line that is too long isn't kept
 abbrev pub tag_in : Given → Option (List ℕ)

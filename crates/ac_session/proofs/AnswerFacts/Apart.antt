@@ -105,9 +105,9 @@ module _ (rest : List ℕ) where
         (moved (first ∷ front) byte (lines_from false text) (passed text (first ∷ (front ++ byte ∷ [])) (plain_joined clean (plain_byte (ap not inner) (plain refl))) clear))
   ]
 
-behind_plain : (line : List ℕ) → IsPlain (behind_status line)
+behind_plain : (text : List ℕ) → IsPlain (behind_status text)
 behind_plain [] = plain refl
-behind_plain (byte ∷ line) = plain_byte refl (plain (before_plain is_newline (byte ∷ line)))
+behind_plain (byte ∷ text) = plain_byte refl (plain (before_plain is_newline (byte ∷ text)))
 
 -- a tag has no newline
 inner : (byte : ℕ) → not (ends_tag byte) ≡ true → is_inner byte ≡ true
@@ -134,21 +134,21 @@ given_plain too_long tag h = let none : None ≡ Some tag = h in absurd cc
 given_plain end tag h = let none : None ≡ Some tag = h in absurd cc
 
 -- the line that ends an answer, with the tag or without
-end_read : (tag : Option (List ℕ)) → ((text : List ℕ) → tag ≡ Some text → IsPlain text) → (status : ℕ) (line rest : List ℕ)
-    → first_answer ((begin_of tag ++ end_behind status line) ++ rest) ≡ begin_of tag ++ end_behind status line
-end_read None clean status line rest =
-    let told = 32 ∷ (decimal status ++ behind_status line) in
-    let plain_told : IsPlain told = plain_byte refl (plain_joined (plain_number status) (behind_plain line)) in
-    let whole : codes "= " ++ end_behind status line ≡ 61 ∷ (told ++ 10 ∷ []) = ap (λ (l : List ℕ). 61 ∷ 32 ∷ l) (sym (append_assoc (decimal status) (behind_status line) (10 ∷ []))) in
+end_read : (tag : Option (List ℕ)) → ((text : List ℕ) → tag ≡ Some text → IsPlain text) → (status : ℕ) (said rest : List ℕ)
+    → first_answer ((begin_of tag ++ end_behind status said) ++ rest) ≡ begin_of tag ++ end_behind status said
+end_read None clean status said rest =
+    let told = 32 ∷ (decimal status ++ behind_status said) in
+    let plain_told : IsPlain told = plain_byte refl (plain_joined (plain_number status) (behind_plain said)) in
+    let whole : codes "= " ++ end_behind status said ≡ 61 ∷ (told ++ 10 ∷ []) = ap (λ (l : List ℕ). 61 ∷ 32 ∷ l) (sym (append_assoc (decimal status) (behind_status said) (10 ∷ []))) in
     ap (λ (l : List ℕ). first_answer (l ++ rest)) whole ∙ reads_end told rest plain_told ∙ sym whole
-end_read (Some tag) clean status line rest =
+end_read (Some tag) clean status said rest =
     let front = 32 ∷ (tag ++ 32 ∷ []) in
-    let told = front ++ (decimal status ++ behind_status line) in
+    let told = front ++ (decimal status ++ behind_status said) in
     let plain_told : IsPlain told =
-    plain_joined (plain_byte refl (plain_joined (clean tag refl) (plain_byte refl (plain refl)))) (plain_joined (plain_number status) (behind_plain line)) in
-    let whole : (codes "= " ++ (tag ++ 32 ∷ [])) ++ end_behind status line ≡ 61 ∷ (told ++ 10 ∷ []) =
-    ap (λ (l : List ℕ). 61 ∷ (front ++ l)) (sym (append_assoc (decimal status) (behind_status line) (10 ∷ [])))
-    ∙ ap (λ (l : List ℕ). 61 ∷ l) (sym (append_assoc front (decimal status ++ behind_status line) (10 ∷ []))) in
+    plain_joined (plain_byte refl (plain_joined (clean tag refl) (plain_byte refl (plain refl)))) (plain_joined (plain_number status) (behind_plain said)) in
+    let whole : (codes "= " ++ (tag ++ 32 ∷ [])) ++ end_behind status said ≡ 61 ∷ (told ++ 10 ∷ []) =
+    ap (λ (l : List ℕ). 61 ∷ (front ++ l)) (sym (append_assoc (decimal status) (behind_status said) (10 ∷ [])))
+    ∙ ap (λ (l : List ℕ). 61 ∷ l) (sym (append_assoc front (decimal status ++ behind_status said) (10 ∷ []))) in
     ap (λ (l : List ℕ). first_answer (l ++ rest)) whole ∙ reads_end told rest plain_told ∙ sym whole
 
 answer_read : (tag : Option (List ℕ)) → ((text : List ℕ) → tag ≡ Some text → IsPlain text) → (o : Outcome) (rest : List ℕ)

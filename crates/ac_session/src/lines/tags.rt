@@ -1,5 +1,5 @@
 //! The tag of a line: a first word that begins with `@`, and stands again where the answer ends.
-ghost use Rattle.std.specs.Prelude.{◌≡◌, Some, option_map};
+ghost use Rattle.std.specs.Prelude.{◌≡◌, Some, option_map, position};
 ghost use Rattle.std.specs.List.{position_or_len};
 ghost use Rattle.ac_session.specs.Lines.{Given, behind_tag, ends_tag, is_tagged, tag_in, tag_of};
 ghost use Rattle.ac_session.specs.Reading.{given_by};
@@ -16,14 +16,25 @@ fn is_tagged(line: &[u8]) -> bool
     }
 }
 
+// Whether a byte ends a tag.
+fn ends_tag(byte: u8) -> bool
+    ensures { result ≡ ends_tag byte }
+{
+    byte == b' ' || byte == b'\n'
+}
+
+// The first byte that ends a tag.
+fn first_end(line: &[u8]) -> Option<usize>
+    ensures { result ≡ position ends_tag line.now }
+{
+    line.iter().position(|byte| ends_tag(*byte))
+}
+
 // Where its tag ends.
 fn tag_end(line: &[u8]) -> usize
     ensures { result ≡ position_or_len ends_tag line.now }
 {
-    let end = line
-        .iter()
-        .position(|byte| *byte == b' ' || *byte == b'\n');
-    end.unwrap_or(line.len())
+    first_end(line).unwrap_or(line.len())
 }
 
 // The tag of a line, where it has one.
