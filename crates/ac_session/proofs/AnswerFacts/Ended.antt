@@ -29,7 +29,7 @@ use Rattle.ac_run.specs.Tasks.{Command, Paths}
 use Rattle.ac_run.specs.Tasks as command
 use Rattle.ac_session.proofs.AnswerFacts.Stood.{first_none, none_added}
 use Rattle.ac_session.specs.Held.{Held, unnamed}
-use Rattle.ac_session.specs.Lines.{Given, line, too_long, end, tag_in}
+use Rattle.ac_session.specs.Lines.{Given, line, too_long, end, behind_tag, tag_in}
 use Rattle.ac_session.specs.Questions.{Asked, job, fill, place, claim, release, release_name, move, mark, back, usages, left_at, help, nothing, unknown, wrong_number, asked_of}
 use Rattle.ac_session.specs.Sessions.{AreUnread, held, held_with, past_called, session_answer, session_answer_with}
 use Rattle.ac_session.specs.Standing.{stop_line, stop_status}
@@ -140,7 +140,7 @@ told_none terms held (Err why) may = may
 
 given_none : (terms : Terms) (held : Held) (given : Given) → GivenMayStop None terms held given → ⊥
 unfolding GivenMayStop
-given_none terms held (line text) may = told_none terms held (asked_told terms held.world (asked_of terms.version text)) may
+given_none terms held (line text) may = told_none terms held (asked_told terms held.world (asked_of terms.version (behind_tag text))) may
 given_none terms held too_long may = may
 given_none terms held end may = may
 

@@ -28,7 +28,7 @@ use Rattle.ac_session.proofs.TurnFacts.ByNames.{kind_kept, names_kept, still_kno
 use Rattle.ac_session.specs.Held.{Claim, Held, Mark}
 use Rattle.ac_session.proofs.UsageRows.Checks.{apart_of}
 use Rattle.ac_session.specs.Laws.{LeavesMarks, MarksStay, held_behind}
-use Rattle.ac_session.specs.Lines.{Given, line, too_long, end}
+use Rattle.ac_session.specs.Lines.{Given, line, too_long, end, behind_tag}
 use Rattle.ac_session.specs.Marks.{Kept, kept_at, kept_entry, kept_of, restored, used_again}
 use Rattle.ac_session.specs.Questions.{Asked, asked_of, back, claim, fill, help, job, left_at, mark, move, nothing, place, release, release_name, unknown, usages, wrong_number}
 use Rattle.ac_session.specs.Turns.{after_fill, back_to, back_turn, claim_turn, claimed_as, fill_turn, mark_turn, move_turn, moved_as, named_claim_turn, named_move_turn, named_place_turn, named_release_turn, place_turn, placed_as, release_turn, released_as, turn_by_ids, turn_of, turn_told, world_after}
@@ -162,7 +162,7 @@ module _ (first : World) where
 
     pub turn_using : (held : Held) (given : Given) → IsUsing first held.world → IsUsing first (turn_of terms held given).state.world
     unfolding turn_of
-    turn_using held (line text) known = told_using held (asked_told terms held.world (asked_of version text)) known
+    turn_using held (line text) known = told_using held (asked_told terms held.world (asked_of version (behind_tag text))) known
     turn_using held too_long known = known
     turn_using held end known = known
 

@@ -41,7 +41,7 @@ use Rattle.ac_session.proofs.UsageRows.Amounts.{gathered_stated}
 use Rattle.ac_session.proofs.UsageRows.GoOn.{classes_in_order}
 use Rattle.ac_session.specs.Held.{Claim, Held, Mark, unnamed}
 use Rattle.ac_session.specs.Laws.{LeavesMarks, NoneOverbooked, SessionsNeverOverbook, held_behind}
-use Rattle.ac_session.specs.Lines.{Given, line, too_long, end}
+use Rattle.ac_session.specs.Lines.{Given, line, too_long, end, behind_tag}
 use Rattle.ac_session.specs.Marks.{kept_of, restored}
 use Rattle.ac_session.specs.Questions.{Asked, asked_of, back, claim, fill, help, job, left_at, mark, move, nothing, place, release, release_name, unknown, usages, wrong_number}
 use Rattle.ac_session.specs.Turns.{after_fill, back_to, claim_of, claim_said, claim_turn, claimed_as, fill_turn, first_at, list_placed, move_of, move_said, move_turn, moved_as, named_claim_turn, named_move_turn, named_place_turn, named_release_turn, place_line, place_turn, placed_as, placed_by, placed_said, places_named, release_turn, released_as, turn_by_ids, turn_of, turn_told, world_after}
@@ -341,7 +341,7 @@ module _ (first : World) (terms : Terms) (held : Held) (known : OverbooksNothing
 
   turn_fine : (given : Given) → OverbooksNothing first (turn_of terms held given).state
   unfolding turn_of
-  turn_fine (line text) = told_fine (asked_told terms held.world (asked_of terms.version text)) (λ old using. turn_using old terms held (line text) using)
+  turn_fine (line text) = told_fine (asked_told terms held.world (asked_of terms.version (behind_tag text))) (λ old using. turn_using old terms held (line text) using)
   turn_fine too_long = known
   turn_fine end = known
 
