@@ -552,17 +552,25 @@ fn answer_words<H: Host + AllocGlobal, Q: Feed + Drop, W: Sink + Drop, E: Sink>(
         → result.2 ≡ Some questions }
 {
     let alloc = host.alloc();
-    let (status, out) = match read_words(alloc, given) {
-        Ok(words) => return answer_line(host, &words, questions, out, err),
-        Err(WordFault::Help(text)) => show(alloc, text.as_bytes(), 0, out, err),
-        Err(WordFault::Version(text)) => show(alloc, text.as_bytes(), 0, out, err),
+    match read_words(alloc, given) {
+        Ok(words) => answer_line(host, &words, questions, out, err),
+        Err(WordFault::Help(text)) => {
+            let (status, out) = show(alloc, text.as_bytes(), 0, out, err);
+            (status, out, Some(questions))
+        }
+        Err(WordFault::Version(text)) => {
+            let (status, out) = show(alloc, text.as_bytes(), 0, out, err);
+            (status, out, Some(questions))
+        }
         Err(WordFault::Refused(text)) => {
             tell_text(err, text.as_bytes());
-            (2, out)
+            (2, out, Some(questions))
         }
-        Err(WordFault::NoMemory) => (tell(err, &Refused::of(alloc, Refusal::NoMemory)), out),
-    };
-    (status, out, Some(questions))
+        Err(WordFault::NoMemory) => {
+            let status = tell(err, &Refused::of(alloc, Refusal::NoMemory));
+            (status, out, Some(questions))
+        }
+    }
 }
 
 // Runs the job of the sample.
@@ -607,17 +615,21 @@ pub fn answer<H: Host + AllocGlobal, Q: Feed + Drop, W: Sink + Drop, E: Sink>(
     ensures unasked { ((words : List (List ℕ)) → H.gives host.now words
         → AskNoSession (named words)) → result.2 ≡ Some questions }
 {
-    let (status, out) = match host.words() {
-        Ok(words) if words.len() < 2 => answer_sample(host.alloc(), out, err),
-        Ok(words) => return answer_words(host, words.as_slice(), questions, out, err),
+    match host.words() {
+        Ok(words) => {
+            if words.len() < 2 {
+                let (status, out) = answer_sample(host.alloc(), out, err);
+                return (status, out, Some(questions));
+            }
+            answer_words(host, words.as_slice(), questions, out, err)
+        }
         Err(Unworded::NotText) => {
             tell_text(err, b"error: the arguments are not UTF-8\n");
-            (2, out)
+            (2, out, Some(questions))
         }
-        Err(Unworded::NoMemory) => (
-            tell(err, &Refused::of(host.alloc(), Refusal::NoMemory)),
-            out,
-        ),
-    };
-    (status, out, Some(questions))
+        Err(Unworded::NoMemory) => {
+            let status = tell(err, &Refused::of(host.alloc(), Refusal::NoMemory));
+            (status, out, Some(questions))
+        }
+    }
 }

@@ -222,12 +222,14 @@ module _ (tries : Option ℕ) (terms : Terms) (first : Held) (given : Given) (no
   is_at (ending.Faulted f) closes on = record { stop = None; may = tt; output = closes; state = on }
   is_at ending.Unasked closes on = record { stop = None; may = tt; output = closes; state = on }
 
-  pub answers_given : {T : Type 0} (result : Result T AnswerFault) (end : Ending) (before after : ℕ)
+  pub answers_given : {T : Type 0} (result : Result T AnswerFault) (end : Ending) (tag : Option (List ℕ)) (before after : ℕ) → tag ≡ tag_in given
       → TakesTurn (GivenMayStop tries terms first given) first turn (Ok end) now e f before after
-      → OnOk result ((old : Option (List ℕ)) (text : List ℕ) → Appends (begun old) f text → Appends old w (lines_written text ++ end_told (tag_in given) end))
-      → ((old : Option (List ℕ)) (text : List ℕ) → Appends (begun old) f text → IsFirstPart (append_known old (lines_written text ++ end_told (tag_in given) end)) w)
+      → OnOk result ((old : Option (List ℕ)) (text : List ℕ) → Appends (begun old) f text → Appends old w (lines_written text ++ end_told tag end))
+      → ((old : Option (List ℕ)) (text : List ℕ) → Appends (begun old) f text → IsFirstPart (append_known old (lines_written text ++ end_told tag end)) w)
       → Answers tries terms first given result now a w
-  answers_given result end before after takes whole part =
+  answers_given result end tag before after same takes whole_of part_of =
+      let whole = subst (λ (t : Option (List ℕ)). OnOk result ((old : Option (List ℕ)) (text : List ℕ) → Appends (begun old) f text → Appends old w (lines_written text ++ end_told t end))) same whole_of in
+      let part = subst (λ (t : Option (List ℕ)). (old : Option (List ℕ)) (text : List ℕ) → Appends (begun old) f text → IsFirstPart (append_known old (lines_written text ++ end_told t end)) w) same part_of in
       let at = is_at end takes.answer.ok takes.state in
       let answer = (turn_at terms first at.stop given).answer in
       record {

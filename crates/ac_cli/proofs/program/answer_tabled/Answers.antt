@@ -62,7 +62,7 @@ returns-in-Err-names_of-clause-ends g c =
       named = c.in-Err-names_of.ensures.fault.0;
       why = c.in-Err-names_of.unread;
       because = c.in-Err-names_of.ensures.fault.2;
-      told = rw (← c.detail_of-detail.ensures) c.tell_unread-in-Err-names_of.ensures;
+      told = rw (← c.detail_of-detail.ensures) c.tell_unread-status-in-Err-names_of.ensures;
       output = refl;
     }))
 
@@ -79,7 +79,7 @@ returns-in-Err-file_of-clause-ends g c =
       named = own_path c.args.words.now ∙ c.in-Err-file_of.ensures.fault.0;
       why = c.in-Err-file_of.unread;
       because = c.in-Err-file_of.ensures.fault.1;
-      told = rw (← c.beside_of.ensures, ← c.detail_of-detail.ensures) c.tell_unread-in-Err-file_of.ensures;
+      told = rw (← c.beside_of.ensures, ← c.detail_of-detail.ensures) c.tell_unread-status-in-Err-file_of.ensures;
       output = refl;
     }))
 

@@ -10,8 +10,8 @@ use Rattle.ac_session.proofs.session.hand_on.Goals as goal
 
 pub returns-in-Ok-answer_next-clause-answers : goal.returns-in-Ok-answer_next-clause-answers
 returns-in-Ok-answer_next-clause-answers g c = λ given e.
-    answers_given c.args.terms.now.tries (terms_of c.args.terms.now) (held_of c.args.held.now) given _ (g.W.Sink.taken c.args.out) _ _ _ _ c.new.ensures.taken c.new-frame.ensures.taken c.end_gathered.result.0 _ _ _
-    (c.in-Ok-answer_next.ensures.turn given e) c.end_gathered.ensures.ok c.end_gathered.ensures.part
+    answers_given c.args.terms.now.tries (terms_of c.args.terms.now) (held_of c.args.held.now) given _ (g.W.Sink.taken c.args.out) _ _ _ _ c.new.ensures.taken c.new-frame.ensures.taken c.end_gathered.result.0 _ _ _ _
+    (c.tag_in.ensures given e) (c.in-Ok-answer_next.ensures.turn given e) c.end_gathered.ensures.ok c.end_gathered.ensures.part
 
 pub returns-in-Ok-answer_next-clause-failed : goal.returns-in-Ok-answer_next-clause-failed
 returns-in-Ok-answer_next-clause-failed g c = λ is.
