@@ -4,7 +4,6 @@ use Rattle.std.proofs.lemmas.Bool.{cases_Bool}
 use Rattle.std.proofs.lemmas.Bool.Decides.{nat_tests}
 use Rattle.std.specs.Io.KnownBytes.{Appends, Keeps, append_known}
 use Rattle.ac_base.specs.Gathered.{IsFirstPart}
-use Rattle.ac_query.specs.declared.version.Version.{Version}
 use Rattle.ac_session.specs.Lines.{most_passed}
 use Rattle.ac_session.specs.Turns.Named.{Terms, terms_with}
 use Rattle.ac_session.specs.Sessions.{session_answer}

@@ -1,5 +1,5 @@
 -- What was done for a line, by what it calls for; and how a run or a session ends for which memory gave out at first.
-use Rattle.std.proofs.Common.{◌≡◌, ℕ, ◌≤◌, Bool, true, false, List, [], Option, Some, None, arith, refl, subst}
+use Rattle.std.proofs.Common.{◌≡◌, ℕ, ◌≤◌, false, List, [], Option, Some, None, arith, refl, subst}
 use Rattle.ac_run.specs.Answer.{Outcome}
 use Rattle.ac_run.specs.Feeds.{Bytes}
 use Rattle.ac_run.specs.Lines.{memory_line}

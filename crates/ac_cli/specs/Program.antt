@@ -7,7 +7,6 @@ use Rattle.clap.specs.declared.error.kind.ErrorKind.TheVariants.{DisplayHelp, Di
 use Rattle.ac_base.specs.Devices.{Rises, TakesPart}
 use Rattle.ac_base.specs.Gathered.{IsFirstPart}
 use Rattle.ac_tables.specs.declared.fault.Table.{Table}
-use Rattle.ac_query.specs.declared.version.Version.{Version}
 use Rattle.ac_query.specs.declared.version.Version.TheVariants.{V136}
 use Rattle.ac_remedies.specs.Tables.{unread_remedy}
 use Rattle.ac_run.specs.Answer.{Outcome, answer}

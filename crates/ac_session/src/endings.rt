@@ -135,11 +135,7 @@ fn push_behind<W: Sink>(out: &mut W, ending: &Ending) -> Result<(), WriteFailed>
 
 // The line that ends an answer to a line with this tag.
 #[tactic(auto, using(ac_base::proofs::Leaving::behind))]
-fn push_ending<W: Sink>(
-    out: &mut W,
-    tag: Option<&[u8]>,
-    ending: &Ending,
-) -> Result<(), WriteFailed>
+fn push_ending<W: Sink>(out: &mut W, tag: Option<&[u8]>, ending: &Ending) -> Result<(), WriteFailed>
     ensures { Pushes W.taken W.failures out.old out.new result
         (end_told (tag_shown tag.entry) ending.now) }
 {

@@ -1,4 +1,4 @@
-use Rattle.std.proofs.Common.{rules, ◌≡◌, IfErr, List, Option, Result, Ok, Err, Some, ℕ, subst, sym}
+use Rattle.std.proofs.Common.{rules, ◌≡◌, IfErr, List, Result, Ok, Err, Some, ℕ, subst, sym}
 use Rattle.ac_cli.specs.Files.{AreOpenedBefore}
 use Rattle.ac_cli.specs.declared.files.Unopened.{Unopened}
 use Rattle.ac_run.specs.Tasks.{Paths, paths_shown}
