@@ -125,8 +125,10 @@ impl Names {
         }
         let index = known.hash.wrapping_add(free).checked_rem(len).unwrap_or(0);
         if let Some(place) = self.kept.get_mut(index) {
+            if place.is_none() {
+                self.count = self.count.saturating_add(1);
+            }
             *place = Some(known);
-            self.count = self.count.saturating_add(1);
         }
     }
 
